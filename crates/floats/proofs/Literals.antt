@@ -1,0 +1,16 @@
+-- The literals of the source, by their bit patterns, are the floats that the specification names. Assumes nothing.
+use mathlib.Core.Path.{_≡_, refl}
+use lib.Ieee.{binary64, ofBits}
+use Rattle.floats.specs.Horizon.{fourTwelve, elevenTenths, twenty}
+
+pub four-twelve : fourTwelve ≡ ofBits binary64 0x4010_7ae1_47ae_147b
+unfolding fourTwelve ofBits
+four-twelve = refl
+
+pub eleven-tenths : elevenTenths ≡ ofBits binary64 0x3ff1_9999_9999_999a
+unfolding elevenTenths ofBits
+eleven-tenths = refl
+
+pub twenty-is : twenty ≡ ofBits binary64 0x4034_0000_0000_0000
+unfolding twenty ofBits
+twenty-is = refl

@@ -1,0 +1,40 @@
+-- `horizon::horizon_km` meets its contract. The calls give the two roots, and the literal is `fourTwelve`. Assumes nothing.
+use mathlib.Core.Path.{_≡_, refl, sym, ap, _∙_, subst}
+use mathlib.Core.Bool.{Bool, cond}
+use lib.Ieee.{Float, binary64, add, mul, sub}
+use Rattle.floats.specs.Root.{root}
+use Rattle.floats.specs.Horizon.{horizon, allowance, fourTwelve, elevenTenths, twenty, atLeastZero}
+use Rattle.floats.proofs.Literals.{four-twelve, eleven-tenths, twenty-is}
+use borrow.Author.Needs.{needs}
+use Rattle.floats.proofs.horizon.horizon_km.Statement.{statement}
+use Rattle.floats.proofs.horizon.horizon_km.Tie as tie
+use Rattle.floats.proofs.horizon.horizon_km.Reads as reads
+use Rattle.floats.proofs.horizon.horizon_km.Lts as lts
+use Rattle.floats.proofs.horizon.at_least_zero.Reads as at-least-zero-reads
+use Rattle.floats.proofs.root.sqrt.Reads as sqrt-reads
+
+at-least-zero-requires : tie.Need-at-least-zero-requires
+at-least-zero-requires c κs = search needs
+
+sqrt-requires : tie.Need-sqrt-requires
+sqrt-requires c κs = search needs
+
+at-least-zero-requires-2 : tie.Need-at-least-zero-requires-2
+at-least-zero-requires-2 c κs = search needs
+
+sqrt-requires-2 : tie.Need-sqrt-requires-2
+sqrt-requires-2 c κs = search needs
+
+returns : tie.Need-returns
+unfolding horizon
+returns c = cc four-twelve
+
+pub horizon-km-spec : {M : Type 1} → statement M
+horizon-km-spec =
+    tie.close
+    (tie.spec
+    at-least-zero-requires
+    sqrt-requires
+    at-least-zero-requires-2
+    sqrt-requires-2
+    returns)
