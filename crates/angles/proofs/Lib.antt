@@ -1,0 +1,6 @@
+-- Laws that the proofs of more than one function cite.
+pub mod Placing
+pub mod Sector
+pub mod Signs
+pub mod Turns
+pub mod Wraps
