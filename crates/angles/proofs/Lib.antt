@@ -2,5 +2,6 @@
 pub mod Placing
 pub mod Sector
 pub mod Signs
+pub mod Sizes
 pub mod Turns
 pub mod Wraps

@@ -8,9 +8,6 @@ use native.Mathlib.Omega.{arith}
 use borrow.Author.Tests.{le-ltb, lt-ltb, ltb-true}
 use lib.IntN.{ℤ, pos, negsuc, negℤ, natAbs, _-ℤ_, _*ℤ_, negℤ-negℤ, negℤ-+ℤ, +ℤ-comm, *ℤ-comm}
 use lib.Signed.{quotZ, ltZ}
-use mir.Syntax.{w64}
-use mir.Val.{SFits, toZ, ofZ}
-use mir.ValLaws.{toZ-ofZ}
 use Rattle.angles.specs.Ticks.{scaled}
 use Rattle.angles.specs.Plane.{mm, M}
 use Rattle.angles.specs.Value.{signed}
@@ -119,7 +116,3 @@ pub below-zero-signed : (x : ℤ) → ltZ x (pos 0) ≡ true → signed true (na
 unfolding signed
 below-zero-signed (pos n) h = absurd (omega (arith, ltb-true n 0 h))
 below-zero-signed (negsuc n) h = refl
-
--- what a callee is passed is read back from the bits
-pub read-size : (x : ℤ) → SFits w64 x → natAbs (toZ w64 (ofZ w64 x)) ≡ natAbs x
-read-size x f = ap natAbs (toZ-ofZ w64 x f)

@@ -32,6 +32,14 @@ pub fn split(x: i64) -> Num
     }
 }
 
+// a − b.
+pub fn less(a: i64, b: i64) -> Num
+    requires { ⌜ (natAbs a ≤ 2 ^ 39) × (natAbs b ≤ 2 ^ 39) ⌝ }
+    ensures { λ r. ⌜ (value r ≡ a -ℤ b) × (r .size ≤ natAbs a + natAbs b) ⌝ }
+{
+    split(a - b)
+}
+
 // m − n.
 pub fn sub(m: u64, n: u64) -> Num
     requires { ⌜ (m ≤ 2 ^ 40) × (n ≤ 2 ^ 40) ⌝ }

@@ -65,11 +65,9 @@ fn seen_from(lat1: i64, lon1: i64, lat2: i64, lon2: i64) -> Seen
     ensures { λ r. ⌜ (value (r .lat1) ≡ lat1) × (value (r .lat2) ≡ lat2) × (value (r .dlat) ≡ lat2 -ℤ lat1) × (value (r .dlon) ≡ wrap (lon2 -ℤ lon1)) × (r .lat1 .size ≤ deg 90) × (r .lat2 .size ≤ deg 90) × (r .dlat .size ≤ deg 180) × (r .dlon .size ≤ deg 180) ⌝ }
 {
     let a = num::split(lat1);
-    let p = num::split(lon1);
     let b = num::split(lat2);
-    let q = num::split(lon2);
-    let dlat = num::diff(b, a);
-    let dlon = plane::wrapped(num::diff(q, p));
+    let dlat = num::less(lat2, lat1);
+    let dlon = plane::wrapped(num::less(lon2, lon1));
     Seen {
         lat1: a,
         lat2: b,

@@ -1,7 +1,10 @@
 -- Lemmas that the proofs share.
+-- a float beside zero
+pub mod Signs
 -- the whole square root, and the correctly rounded one
 pub mod Newton
 pub mod Whole
+pub mod Guess
 pub mod Units
 pub mod Pattern
 pub mod Value

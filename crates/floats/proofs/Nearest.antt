@@ -1,22 +1,20 @@
 -- `root x` is nearer to √x than every other value of the format, and the only one that is. Assumes nothing.
 use mathlib.Core.Path.{_≡_, refl, sym, ap, _∙_, subst}
 use mathlib.Core.Logic.{_⊎_, inl, inr}
-use mathlib.Core.Bool.{Bool, true, false, not, cond}
+use mathlib.Core.Bool.{false, not}
 use Prim.Native.Nat.{ℕ, zero, suc, _+_, _-_, _*_, _/_, _%_, _^_, _≤_, _<_}
-use native.Mathlib.Nat.{le-refl, le-trans, le-of-lt, le-of-eq, lt-of-lt-of-le, lt-of-le-of-lt, lt-irrefl, lt-of-not-le, eq-or-lt-of-le, mul-le-mul-left, mul-le-mul-right, mul-lt-mul-of-pos-right, mul-lt-mul-of-pos-left, lt-of-mul-lt-mul-right, le-of-mul-le-mul-right, mul-comm, mul-assoc, mul-mul-mul-comm, add-mul, mul-one, one-mul, mul-pos, zero-lt-suc, le-of-suc-le-suc, zero-mul, add-comm}
+use native.Mathlib.Nat.{le-trans, le-of-lt, le-of-eq, lt-of-lt-of-le, lt-of-le-of-lt, lt-irrefl, lt-of-not-le, eq-or-lt-of-le, mul-le-mul-left, mul-le-mul-right, mul-lt-mul-of-pos-right, lt-of-mul-lt-mul-right, mul-comm, mul-assoc, mul-mul-mul-comm, add-mul, zero-lt-suc, le-of-suc-le-suc, zero-mul, add-comm}
 use native.Mathlib.Decide.{decLe}
 use native.Mathlib.Omega.{arith}
-use lib.Dec.{T, ltb→lt}
-use lib.IntN.{ℤ}
+use lib.Dec.{T}
 use lib.Pow.{pow-pos, pow-mono, pow-lt, pow-add, shl-lt}
-use lib.Ieee.{Float, nan, inf, fin, binary64, up, down, size, units, fits, toBits, ofBits}
-use lib.Ieee.Digits.{size-lt, size-le, size-reaches, back}
+use lib.Ieee.{Float, binary64, up, size, units, fits, ofBits}
+use lib.Ieee.Digits.{size-lt, size-le, size-reaches}
 use lib.Ieee.Bits.{ofBits-toBits}
 use lib.Ieee.Exact.{HasValue, units-val}
-use lib.Ieee.Positive.{positive, positive-of-value}
 use Rattle.floats.specs.Root.{root, rootUnits, isqrt, unitsOf, plain, NearestRoot}
-use Rattle.floats.proofs.Newton.{sq-next, sq-even}
-use Rattle.floats.proofs.Whole.{isqrt-is, four-pow, sq-mono, not-above}
+use Rattle.floats.proofs.Newton.{sq-next, sq-even, sq-le, root-lt}
+use Rattle.floats.proofs.Whole.{isqrt-is, four-pow, twice-at-most}
 use Rattle.floats.proofs.Pattern.{bits-of, units-fits, root-is, r-low, four-times}
 use Rattle.floats.proofs.Value.{root-value}
 use Rattle.floats.proofs.Units.{Shape, shape-of, multiple, own-units, units-of}
@@ -95,7 +93,7 @@ module _ (v s q k Y : ℕ) (lower : s * s ≤ v * 2 ^ 54) (upper : v * 2 ^ 54 < 
       let g : q < c = lt-of-mul-lt-mul-right (2 ^ k) (lt-of-lt-of-le h (le-of-eq e)) in
       let sum : (q + c) * 2 ^ k ≡ q * 2 ^ k + Y = add-mul q c (2 ^ k) ∙ ap (λ (x : ℕ). q * 2 ^ k + x) (sym e) in
       lt-of-lt-of-le (mul-lt-mul-of-pos-right upper (four-pos k))
-      (le-trans (mul-le-mul-right (4 ^ k) (sq-mono (s + 1) (q + c) (omega arith)))
+      (le-trans (mul-le-mul-right (4 ^ k) (sq-le (s + 1) (q + c) (omega arith)))
       (le-of-eq (sym (sq-scale (q + c) k) ∙ ap (λ (x : ℕ). x * x) sum)))
 
   -- an odd square is not the even number
@@ -117,32 +115,19 @@ module _ (v s q k Y : ℕ) (lower : s * s ≤ v * 2 ^ 54) (upper : v * 2 ^ 54 < 
       let g : c < q = lt-of-mul-lt-mul-right (2 ^ k) (lt-of-le-of-lt (le-of-eq (sym e)) h) in
       let sum : (q + c) * 2 ^ k ≡ q * 2 ^ k + Y = add-mul q c (2 ^ k) ∙ ap (λ (x : ℕ). q * 2 ^ k + x) (sym e) in
       lt-of-le-of-lt (le-of-eq (ap (λ (x : ℕ). x * x) (sym sum) ∙ sq-scale (q + c) k))
-      (lt-of-le-of-lt (mul-le-mul-right (4 ^ k) (sq-mono (q + c) (2 * q - 1) (omega arith))) (mul-lt-mul-of-pos-right middle-less (four-pos k)))
+      (lt-of-le-of-lt (mul-le-mul-right (4 ^ k) (sq-le (q + c) (2 * q - 1) (omega arith))) (mul-lt-mul-of-pos-right middle-less (four-pos k)))
 
   -- below 2 ^ 52 * 2 ^ k the values lie closer, and all are farther
   farther-low : Y < 2 ^ 52 * 2 ^ k → (q * 2 ^ k + Y) * (q * 2 ^ k + Y) < v * 2 ^ 54 * 4 ^ k
   farther-low h =
       let sum : q * 2 ^ k + Y < (q + 2 ^ 52) * 2 ^ k = lt-of-lt-of-le (add-less (q * 2 ^ k) Y (2 ^ 52 * 2 ^ k) h) (le-of-eq (sym (add-mul q (2 ^ 52) (2 ^ k)))) in
       lt-of-lt-of-le (sq-strict (q * 2 ^ k + Y) ((q + 2 ^ 52) * 2 ^ k) sum)
-      (le-trans (le-of-eq (sq-scale (q + 2 ^ 52) k)) (mul-le-mul-right (4 ^ k) (le-trans (sq-mono (q + 2 ^ 52) s (omega arith)) lower)))
+      (le-trans (le-of-eq (sq-scale (q + 2 ^ 52) k)) (mul-le-mul-right (4 ^ k) (le-trans (sq-le (q + 2 ^ 52) s (omega arith)) lower)))
     where
       add-less : (a b c : ℕ) → b < c → a + b < a + c
       add-less a b c h = omega arith
 
 -- ---- the theorem
-
-twice-at-most : (n b : ℕ) → n < 2 ^ 53 → b < 2 → n * (b + 1) < 2 ^ 54
-twice-at-most n b h l = lt-of-le-of-lt (mul-le-mul-left n (at-most b l)) (below n h)
-  where
-    at-most : (b : ℕ) → b < 2 → b + 1 ≤ 2
-    at-most b l = omega arith
-
-    below : (n : ℕ) → n < 2 ^ 53 → n * 2 < 2 ^ 54
-    below n h = omega arith
-
--- the whole root of a number below 2 ^ 54 * 2 ^ 54 is below 2 ^ 54
-root-lt : (v s : ℕ) → v < 2 ^ 54 → s * s ≤ v * 2 ^ 54 → s < 2 ^ 54
-root-lt v s h l = lt-of-not-le (λ (g : 2 ^ 54 ≤ s). lt-irrefl (v * 2 ^ 54) (lt-of-lt-of-le (mul-lt-mul-of-pos-right h (pow-pos 54)) (le-trans (sq-mono (2 ^ 54) s g) l)))
 
 -- What is known of the root r of u units: it is q * 2 ^ k units, and four times the square of √u is v * 2 ^ 54 * 4 ^ k.
 record Found (u : ℕ) (r : Float) : Type 0 where

@@ -2,12 +2,12 @@
 use mathlib.Core.Path.{_≡_, refl, sym, ap, _∙_, subst}
 use mathlib.Core.Bool.{Bool, true, false, not, cond}
 use mathlib.Core.List.{List, [], _∷_}
-use Prim.Native.Nat.{ℕ, _+_, _≤_, _<_}
+use Prim.Native.Nat.{ℕ, _+_, _≤_}
 use native.Mathlib.Nat.{le-trans, le-of-lt}
 use native.Mathlib.Omega.{arith}
 use lib.Dec.{T, ltb, ltb→lt, nltb→le}
-use lib.Ieee.{Float, binary64, fits, lt}
-use Rattle.floats.specs.Root.{unitsOf, plain}
+use lib.Ieee.{Float, lt}
+use Rattle.floats.specs.Root.{unitsOf}
 use Rattle.floats.proofs.Units.{lt-units}
 use Rattle.floats.specs.Rank.{insert, sorted, Good, AllGood, AtMost, Ascending, count}
 

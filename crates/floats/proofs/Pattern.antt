@@ -1,19 +1,21 @@
 -- The root in units of the smallest value, and its bit pattern. Assumes nothing.
-use mathlib.Core.Path.{_≡_, refl, sym, ap, _∙_, subst}
+use mathlib.Core.Path.{_≡_, sym, ap, _∙_, subst}
 use mathlib.Core.Logic.{_⊎_, inl, inr}
-use mathlib.Core.Bool.{Bool, true, false, cond}
-use Prim.Native.Nat.{ℕ, zero, suc, _+_, _-_, _*_, _/_, _%_, _^_, _≤_, _<_}
-use native.Mathlib.Nat.{le-refl, le-trans, le-of-lt, le-of-eq, lt-of-lt-of-le, lt-of-le-of-lt, lt-irrefl, lt-of-not-le, eq-or-lt-of-le, mul-le-mul-left, mul-le-mul-right, mul-comm, mul-assoc, mul-left-comm, mul-one, one-mul, zero-add, pow-succ', mul-div-cancel, mod-lt, zero-lt-suc}
+use mathlib.Core.Bool.{Bool, false, cond}
+use Prim.Native.Nat.{ℕ, _+_, _-_, _*_, _/_, _%_, _^_, _≤_, _<_}
+use native.Mathlib.Nat.{le-trans, le-of-eq, lt-of-lt-of-le, lt-of-le-of-lt, lt-irrefl, lt-of-not-le, eq-or-lt-of-le, mul-le-mul-right, mul-comm, mul-assoc, zero-add, pow-succ', mul-div-cancel, mod-lt, zero-lt-suc}
 use native.Mathlib.Numerals.{add-one}
 use native.Mathlib.Omega.{arith}
-use lib.Dec.{T, ltb, lt→ltb, lit<}
-use lib.Pow.{pow-pos, pow-mono, pow-lt, pow-add, shl-lt}
+use lib.Dec.{T, ltb, lt→ltb}
+use lib.Pow.{pow-pos, pow-lt, pow-add}
 use lib.Ieee.{Float, nan, inf, fin, binary64, up, down, size, odd, units, fits, toBits, ofBits}
 use lib.Ieee.Fits.{odd-fits, down-pos}
 use lib.Ieee.Bits.{ofBits-toBits, is-true}
 use lib.Ieee.Exact.{HasValue, units-val}
 use Rattle.floats.specs.Root.{isqrt, rootUnits}
-use Rattle.floats.proofs.Whole.{isqrt-unique, four-pow, bit-pow, size-shifted, sq-mono}
+use Rattle.floats.proofs.Newton.{sq-le, root-lt}
+use Rattle.floats.proofs.Whole.{isqrt-is, isqrt-unique, four-pow, bit-pow, twice-at-most, once-at-least, size-shifted}
+use Rattle.floats.proofs.Guess.{nearest}
 
 -- ---- the bits of a value of 53 digits with j zeros after them, in units of the smallest value
 
@@ -96,13 +98,21 @@ module _ (u n k r : ℕ) (lo : 2 ^ 52 ≤ n) (hi : n < 2 ^ 53) (same : n * 2 ^ k
 
   -- the root has 54 digits
   p-low : 2 ^ 106 ≤ n * (k % 2 + 1) * 2 ^ 54
-  p-low = mul-le-mul-right (2 ^ 54) (le-trans lo (le-trans (le-of-eq (sym (mul-one n))) (mul-le-mul-left n (omega arith))))
+  p-low = mul-le-mul-right (2 ^ 54) (once-at-least n (k % 2) lo)
 
   pub r-low : 2 ^ 53 ≤ r
-  r-low = at-least r (lt-of-not-le (λ (g : r + 1 ≤ 2 ^ 53). lt-irrefl (n * (k % 2 + 1) * 2 ^ 54) (lt-of-lt-of-le above (le-trans (sq-mono (r + 1) (2 ^ 53) g) p-low))))
+  r-low = at-least r (lt-of-not-le (λ (g : r + 1 ≤ 2 ^ 53). lt-irrefl (n * (k % 2 + 1) * 2 ^ 54) (lt-of-lt-of-le above (le-trans (sq-le (r + 1) (2 ^ 53) g) p-low))))
     where
       at-least : (r : ℕ) → 2 ^ 53 < r + 1 → 2 ^ 53 ≤ r
       at-least r h = omega arith
 
-  pub pattern-is : k ≤ 2097 → r < 2 ^ 54 → ofBits binary64 ((k / 2 + 485) * 2 ^ 52 + (r + 1) / 2) ≡ rootUnits u
+  pattern-is : k ≤ 2097 → r < 2 ^ 54 → ofBits binary64 ((k / 2 + 485) * 2 ^ 52 + (r + 1) / 2) ≡ rootUnits u
   pattern-is kh rh = sym (root-is ∙ pattern ((r + 1) / 2) (k / 2 + 485) (omega (arith, r-low)) (omega arith) (omega arith))
+
+-- the pattern that the program makes, from the nearest whole number c that it finds
+pub pattern-of : (u n k c : ℕ) → 2 ^ 52 ≤ n → n < 2 ^ 53 → n * 2 ^ k ≡ u * 2 ^ 52 → k ≤ 2097 → c ≡ nearest (n * (k % 2 + 1)) → ofBits binary64 ((k / 2 + 485) * 2 ^ 52 + c) ≡ rootUnits u
+pattern-of u n k c lo hi same kh e =
+    let p = n * (k % 2 + 1) in
+    let w = isqrt-is (p * 2 ^ 54) in
+    ap (λ (x : ℕ). ofBits binary64 ((k / 2 + 485) * 2 ^ 52 + x)) e
+    ∙ pattern-is u n k (isqrt (p * 2 ^ 54)) lo hi same (w .0) (w .1) kh (root-lt p (isqrt (p * 2 ^ 54)) (twice-at-most n (k % 2) hi (mod-lt k (zero-lt-suc 1))) (w .0))

@@ -1,12 +1,12 @@
 -- A distance of at most 800, divided by 5 in f64: the quotient is at most 160, since rounding keeps the order. Assumes nothing.
-use mathlib.Core.Path.{_≡_, refl, sym, ap, _∙_, subst}
-use mathlib.Core.Bool.{Bool, true, false, not, cond, _&&_, _||_}
-use Prim.Native.Nat.{ℕ, zero, suc, _+_, _*_, _/_, _^_, _≤_, _<_, max}
-use native.Mathlib.Nat.{mul-one, mul-pos, zero-lt-suc, div-lt-iff-lt-mul, lt-of-le-of-lt}
+use mathlib.Core.Path.{_≡_, refl, sym, subst}
+use mathlib.Core.Bool.{Bool, true, false, not, cond}
+use Prim.Native.Nat.{ℕ, zero, suc, _+_, _*_, _^_, _≤_, _<_, max}
+use native.Mathlib.Nat.{mul-one, mul-pos, zero-lt-suc, div-lt-iff-lt-mul}
 use native.Mathlib.Omega.{arith}
-use lib.Dec.{T, ltb, eqb, leb→le, lt→ltb}
-use lib.IntN.{ℤ, pos}
-use lib.Ieee.{Float, nan, inf, fin, Format, binary64, up, down, odd, units, round, div, lt, eq, le}
+use lib.Dec.{T, ltb, leb→le, lt→ltb}
+use lib.IntN.{pos}
+use lib.Ieee.{Float, nan, inf, fin, binary64, up, down, odd, units, round, div, lt, eq, le}
 use lib.Ieee.Fits.{down-pos, round-is}
 use lib.Ieee.Order.{round-mono}
 use Rattle.floats.specs.Degrees.{nearestUp}
@@ -24,6 +24,7 @@ unfolding odd
 odd-plus d zero k l = tt
 odd-plus d (suc q) k l = tt
 
+-- what is rounded with no minus sign has none
 pub units-plus : (q k : ℕ) → T (plus (units binary64 false q k))
 unfolding units
 units-plus q k = go (ltb (q * 2 ^ k) (2 ^ 2098))
@@ -43,10 +44,12 @@ most-is : round binary64 false 160 1 ≡ most
 unfolding round
 most-is = refl
 
+-- a quotient that `half_up` takes, and what it gives at most
 pub record Small (q : Float) : Type 0 where
   pub counts : T (countable q)
   pub bound : halfAway q ≤ 160
 
+-- with no minus sign and at most 160
 small : (q : Float) → T (plus q) → T (le q most) → Small q
 unfolding le lt eq countable halfAway
 small nan p h = absurd p
@@ -67,6 +70,7 @@ small (fin false m e) p h =
     at-last : (n : ℕ) → n < 161 → n ≤ 160
     at-last n h = omega arith
 
+-- a fifth of a distance
 pub quotient : (x : Float) → T (distance x) → Small (div binary64 x five)
 unfolding distance div
 quotient nan h = absurd h

@@ -1,19 +1,17 @@
 -- A float times a power of two, exactly; and a value cut or rounded to a whole number. Assumes nothing.
 use mathlib.Core.Path.{_≡_, refl, sym, ap, _∙_, subst}
-use mathlib.Core.Logic.{_⊎_, inl, inr}
-use mathlib.Core.Bool.{Bool, true, false, not, cond, _&&_}
-use Prim.Native.Nat.{ℕ, zero, suc, _+_, _-_, _*_, _/_, _%_, _^_, _≤_, _<_, min, zero-le}
-use native.Mathlib.Nat.{le-refl, le-trans, le-of-lt, le-of-eq, lt-of-lt-of-le, lt-of-le-of-lt, lt-irrefl, zero-lt-suc, mul-le-mul-left, mul-le-mul-right, mul-lt-mul-of-pos-right, lt-of-mul-lt-mul-right, le-of-mul-le-mul-right, mul-comm, mul-assoc, mul-left-comm, mul-right-comm, mul-one, one-mul, zero-mul, mul-pos, add-mul, mul-div-cancel, add-div-right, div-div-eq-div-mul, div-lt-iff-lt-mul, le-of-suc-le-suc, lt-of-not-le, div-eq-of-lt}
+use mathlib.Core.Bool.{Bool, true, false}
+use Prim.Native.Nat.{ℕ, _+_, _-_, _*_, _/_, _^_, _≤_, _<_, min}
+use native.Mathlib.Nat.{le-trans, le-of-lt, le-of-eq, lt-of-lt-of-le, lt-of-le-of-lt, zero-lt-suc, mul-le-mul-right, mul-lt-mul-of-pos-right, lt-of-mul-lt-mul-right, le-of-mul-le-mul-right, mul-comm, mul-assoc, mul-left-comm, mul-right-comm, mul-one, one-mul, mul-pos, add-mul, add-div-right, div-div-eq-div-mul, div-lt-iff-lt-mul}
 use native.Mathlib.Omega.{arith}
-use lib.Dec.{T, leb, ltb, eqb, leb→le, ltb→lt, lt→ltb, le→leb, eqb→eq}
-use lib.IntN.{ℤ, pos, negsuc, negℤ}
-use lib.Pow.{pow-pos, pow-mono, pow-lt, pow-add}
-use lib.Ieee.{Float, nan, inf, fin, Format, binary64, up, down, round, mul, neg, lt, fits, toUnsigned}
-use lib.Ieee.Digits.{back}
-use lib.Ieee.Fits.{and-l, and-r, up-pos, down-pos}
+use lib.Dec.{T, ltb, ltb→lt, lt→ltb}
+use lib.IntN.{ℤ, pos}
+use lib.Pow.{pow-pos, pow-lt, pow-add}
+use lib.Ieee.{Float, nan, inf, fin, binary64, up, down, round, mul, lt, fits, toUnsigned}
+use lib.Ieee.Fits.{down-pos}
 use lib.Ieee.Nearest.{div-same}
 use lib.Ieee.Exact.{HasValue, round-exact}
-use lib.Ieee.Positive.{num, den, den-pos}
+use lib.Ieee.Positive.{num, den}
 use Rattle.floats.specs.Degrees.{nearestUp}
 use Rattle.floats.specs.Steps.{halfAway, countable}
 use Rattle.floats.proofs.Units.{digits, not-too-low, in-units}

@@ -1,5 +1,5 @@
 -- Worked examples of 01 as theorems: P1 and P8, and three of ticks. Assumes nothing.
-use mathlib.Core.Path.{_≡_, refl, sym, ap, _∙_}
+use mathlib.Core.Path.{_≡_, refl, ap, _∙_}
 use mathlib.Core.Bool.{true, false}
 use Prim.Native.Nat.{_^_, _*_}
 use lib.Dec.{lit<, lit≤}

@@ -1,14 +1,13 @@
 -- The two comparisons of a range test, together. Assumes nothing.
-use mathlib.Core.Path.{_≡_, refl, sym, ap, _∙_, subst}
-use mathlib.Core.Bool.{Bool, true, false, not, cond, _&&_, _||_, Bool·beq}
-use Prim.Native.Nat.{ℕ, zero, suc, _+_, _*_, _^_, _≤_, _<_}
-use native.Mathlib.Nat.{mul-one, mul-comm, le-of-lt, le-of-eq, mul-pos}
+use mathlib.Core.Path.{_≡_, refl, sym, ap, _∙_}
+use mathlib.Core.Bool.{Bool, true, false, not, _&&_, _||_}
+use Prim.Native.Nat.{ℕ, _+_, _*_, _^_, _≤_, _<_}
+use native.Mathlib.Nat.{mul-one, le-of-lt, le-of-eq, mul-pos}
 use native.Mathlib.Omega.{arith}
-use lib.Dec.{T, leb, ltb, eqb, leb→le, ltb→lt, lt→ltb, le→leb, eqb→eq, nltb→le, nleb→lt, not-T}
-use lib.IntN.{ℤ, pos}
+use lib.Dec.{T, leb, ltb, eqb, leb→le, ltb→lt, lt→ltb, le→leb, eqb→eq, nltb→le}
+use lib.IntN.{pos}
 use lib.Ieee.{Float, nan, inf, fin, up, down, lt, eq, le}
-use lib.Ieee.Fits.{up-pos, down-pos, eq→eqb}
-use lib.Ieee.Bits.{is-true, is-false}
+use lib.Ieee.Fits.{down-pos, eq→eqb}
 use Rattle.floats.specs.Degrees.{within}
 
 -- below or level is at most
@@ -71,3 +70,7 @@ range n k (fin true m e) h =
         go true false p q r s = absurd (s (sym (p tt)))
         go false true p q r s = absurd (q (sym (r tt)))
         go false false p q r s = refl
+
+-- the same from the first test's answer, which the program has
+pub range-by : (n k : ℕ) (x : Float) (b : Bool) → 0 < n * 2 ^ k → le (fin true n (pos k)) x ≡ b → (b && le x (fin false n (pos k))) ≡ within (n * 2 ^ k) x
+range-by n k x b h e = ap (λ (t : Bool). t && le x (fin false n (pos k))) (sym e) ∙ range n k x h

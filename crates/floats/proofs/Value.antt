@@ -1,24 +1,18 @@
 -- The float that is read from a bit pattern, and its root. Assumes nothing.
 use mathlib.Core.Path.{_≡_, refl, sym, ap, _∙_, subst}
-use mathlib.Core.Logic.{_⊎_, inl, inr}
-use mathlib.Core.Bool.{Bool, true, false, not, cond, _&&_, _||_, Bool·beq}
-use Prim.Native.Nat.{ℕ, zero, suc, _+_, _-_, _*_, _/_, _%_, _^_, _≤_, _<_}
-use native.Mathlib.Nat.{lt-irrefl, zero-lt-suc, mul-one, zero-mul, mul-pos, mod-eq-of-lt, mul-div-cancel, eq-zero-or-pos, add-comm}
+use mathlib.Core.Bool.{Bool, true, false, not, cond}
+use Prim.Native.Nat.{ℕ, zero, suc, _+_, _*_, _/_, _%_, _^_, _<_}
+use native.Mathlib.Nat.{lt-irrefl, zero-lt-suc, mul-one, zero-mul, mul-pos, mod-eq-of-lt, mul-div-cancel, add-comm}
 use native.Mathlib.Omega.{arith}
-use lib.Dec.{T, ltb, leb, eqb, nleb→lt, lt→ltb, ltb→lt, eqb→eq, not-T, eqb·suc-zero}
-use lib.IntN.{pos}
+use lib.Dec.{T, ltb, leb, eqb, nleb→lt, ltb→lt, eqb→eq, not-T, eqb·suc-zero}
 use lib.Pow.{pow-pos}
 use lib.Ieee.{Float, nan, inf, fin, binary64, up, down, odd, fits, isNan, ofFields, toBits, ofBits, nanBits, lt, eq}
-use lib.Ieee.Fits.{down-pos, up-pos, and-l}
-use lib.Ieee.Bits.{ofBits-toBits, is-true, is-false, nanBits-above}
+use lib.Ieee.Fits.{down-pos}
+use lib.Ieee.Bits.{ofBits-toBits, is-false, nanBits-above}
 use lib.Ieee.Exact.{HasValue, odd-sign}
 use Rattle.floats.specs.Root.{root, rootUnits}
-
-abbrev pub zero-float : Float
-zero-float = fin false 0 (pos 0)
-
-true-not-false : true ≡ false → ⊥
-true-not-false e = subst T e tt
+use Rattle.floats.specs.Horizon.{plusZero}
+use Rattle.floats.proofs.Signs.{true-not-false, plus-above, zero-equal, not-equal}
 
 -- ---- the root of a value above zero, by its size in units
 
@@ -36,18 +30,18 @@ ofBits-is : (b : ℕ) → ofBits binary64 b ≡ ofFields binary64 (leb (2 ^ 63) 
 unfolding ofBits
 ofBits-is b = refl
 
-odd-below : (q k : ℕ) → lt zero-float (odd 53 true q k 1074) ≡ false
+odd-below : (q k : ℕ) → lt plusZero (odd 53 true q k 1074) ≡ false
 unfolding odd lt
 odd-below zero k = refl
 odd-below (suc q) k = refl
 
-below-by : (a b : Bool) (q k : ℕ) → lt zero-float (cond a (cond b (inf true) nan) (odd 53 true q k 1074)) ≡ false
+below-by : (a b : Bool) (q k : ℕ) → lt plusZero (cond a (cond b (inf true) nan) (odd 53 true q k 1074)) ≡ false
 unfolding lt
 below-by true true q k = refl
 below-by true false q k = refl
 below-by false b q k = odd-below q k
 
-negative-below : (x t : ℕ) → lt zero-float (ofFields binary64 true x t) ≡ false
+negative-below : (x t : ℕ) → lt plusZero (ofFields binary64 true x t) ≡ false
 unfolding ofFields
 negative-below zero t = odd-below t 0
 negative-below (suc x) t = below-by (eqb (suc x) 2047) (eqb t 0) (2 ^ 52 + t) x
@@ -56,16 +50,16 @@ pub record Above (x : Float) (b : ℕ) : Type 0 where
   pub read : x ≡ ofFields binary64 false (b / 2 ^ 52) (b % 2 ^ 52)
   pub small : b < 2 ^ 63
 
-above-by : (x : Float) (b : ℕ) (s : Bool) → leb (2 ^ 63) b ≡ s → x ≡ ofFields binary64 s (b % 2 ^ 63 / 2 ^ 52) (b % 2 ^ 52) → lt zero-float x ≡ true → Above x b
-above-by x b true e r h = absurd (true-not-false (sym h ∙ ap (lt zero-float) r ∙ negative-below (b % 2 ^ 63 / 2 ^ 52) (b % 2 ^ 52)))
+above-by : (x : Float) (b : ℕ) (s : Bool) → leb (2 ^ 63) b ≡ s → x ≡ ofFields binary64 s (b % 2 ^ 63 / 2 ^ 52) (b % 2 ^ 52) → lt plusZero x ≡ true → Above x b
+above-by x b true e r h = absurd (true-not-false (sym h ∙ ap (lt plusZero) r ∙ negative-below (b % 2 ^ 63 / 2 ^ 52) (b % 2 ^ 52)))
 above-by x b false e r h =
     let l : b < 2 ^ 63 = nleb→lt (2 ^ 63) b (subst (λ (s : Bool). T (not s)) (sym e) tt) in
     record { read = r ∙ ap (λ (y : ℕ). ofFields binary64 false (y / 2 ^ 52) (b % 2 ^ 52)) (mod-eq-of-lt l); small = l }
 
-pub above : (x : Float) → T (fits binary64 x) → lt zero-float x ≡ true → Above x (toBits binary64 x)
+pub above : (x : Float) → T (fits binary64 x) → lt plusZero x ≡ true → Above x (toBits binary64 x)
 above x f h = above-by x (toBits binary64 x) (leb (2 ^ 63) (toBits binary64 x)) refl (sym (ofBits-toBits binary64 x f) ∙ ofBits-is (toBits binary64 x)) h
 
-pub above-no-nan : (x : Float) → lt zero-float x ≡ true → T (not (isNan x))
+pub above-no-nan : (x : Float) → lt plusZero x ≡ true → T (not (isNan x))
 unfolding lt isNan
 above-no-nan nan h = absurd (true-not-false (sym h))
 above-no-nan (inf s) h = tt
@@ -73,7 +67,7 @@ above-no-nan (fin s m e) h = tt
 
 -- ---- the three kinds of pattern
 
-zero-not-above : lt zero-float (ofFields binary64 false 0 0) ≡ false
+zero-not-above : lt plusZero (ofFields binary64 false 0 0) ≡ false
 unfolding lt ofFields odd
 zero-not-above = refl
 
@@ -81,15 +75,15 @@ low-at : (t : ℕ) → HasValue (ofFields binary64 false 0 t) false (t * 2 ^ 0) 
 unfolding ofFields
 low-at t = odd-sign 53 false t 0 1074
 
-low-pos : (x : Float) (t : ℕ) → x ≡ ofFields binary64 false 0 t → lt zero-float x ≡ true → 0 < t
-low-pos x zero r h = absurd (true-not-false (sym h ∙ ap (lt zero-float) r ∙ zero-not-above))
+low-pos : (x : Float) (t : ℕ) → x ≡ ofFields binary64 false 0 t → lt plusZero x ≡ true → 0 < t
+low-pos x zero r h = absurd (true-not-false (sym h ∙ ap (lt plusZero) r ∙ zero-not-above))
 low-pos x (suc t) r h = zero-lt-suc t
 
 -- an exponent's field of all ones is an infinity, since a NaN is not above zero
-infinite-by : (x : Float) (t : ℕ) → x ≡ ofFields binary64 false 2047 t → lt zero-float x ≡ true → root x ≡ x
+infinite-by : (x : Float) (t : ℕ) → x ≡ ofFields binary64 false 2047 t → lt plusZero x ≡ true → root x ≡ x
 unfolding ofFields root lt
 infinite-by x zero r h = ap root r ∙ sym r
-infinite-by x (suc t) r h = absurd (true-not-false (sym h ∙ ap (lt zero-float) (r ∙ ap (λ (c : Bool). cond c (inf false) nan) (eqb·suc-zero t))))
+infinite-by x (suc t) r h = absurd (true-not-false (sym h ∙ ap (lt plusZero) (r ∙ ap (λ (c : Bool). cond c (inf false) nan) (eqb·suc-zero t))))
 
 mid-at : (t g : ℕ) → (suc g ≡ 2047 → ⊥) → HasValue (ofFields binary64 false (suc g) t) false ((t + 2 ^ 52) * 2 ^ g) (2 ^ 1074)
 unfolding ofFields
@@ -97,7 +91,7 @@ mid-at t g n =
     subst (λ (c : Bool). HasValue (cond c (cond (eqb t 0) (inf false) nan) (odd 53 false (2 ^ 52 + t) g 1074)) false ((t + 2 ^ 52) * 2 ^ g) (2 ^ 1074)) (sym (is-false (eqb (suc g) 2047) (not-T (eqb (suc g) 2047) (λ (u : T (eqb (suc g) 2047)). n (eqb→eq (suc g) 2047 u)))))
     (subst (λ (q : ℕ). HasValue (odd 53 false (2 ^ 52 + t) g 1074) false (q * 2 ^ g) (2 ^ 1074)) (add-comm (2 ^ 52) t) (odd-sign 53 false (2 ^ 52 + t) g 1074))
 
-module _ (x : Float) (b : ℕ) (a : Above x b) (h : lt zero-float x ≡ true) where
+module _ (x : Float) (b : ℕ) (a : Above x b) (h : lt plusZero x ≡ true) where
   read-at : (e : ℕ) → b / 2 ^ 52 ≡ e → x ≡ ofFields binary64 false e (b % 2 ^ 52)
   read-at e q = a .read ∙ ap (λ (y : ℕ). ofFields binary64 false y (b % 2 ^ 52)) q
 
@@ -119,31 +113,21 @@ module _ (x : Float) (b : ℕ) (a : Above x b) (h : lt zero-float x ≡ true) wh
 
 -- ---- what is not above zero
 
-pub root-of-zero : (x : Float) → eq x zero-float ≡ true → root x ≡ x
+pub root-of-zero : (x : Float) → eq x plusZero ≡ true → root x ≡ x
 unfolding root eq
 root-of-zero nan h = absurd (true-not-false (sym h))
 root-of-zero (inf s) h = absurd (true-not-false (sym h))
 root-of-zero (fin s zero e) h = refl
-root-of-zero (fin s (suc m) e) h =
-    absurd (not-zero (suc m * up e * 1) (0 * 1 * down e) (mul-pos (mul-pos (zero-lt-suc m) (up-pos e)) (zero-lt-suc 0)) (ap (λ (y : ℕ). y * down e) (zero-mul 1) ∙ zero-mul (down e))
-    (eqb→eq (suc m * up e * 1) (0 * 1 * down e) (and-l (eqb (suc m * up e * 1) (0 * 1 * down e)) (Bool·beq s false || eqb (suc m * up e * 1) 0) (subst T (sym h) tt))))
-  where
-    not-zero : (a b : ℕ) → 0 < a → b ≡ 0 → a ≡ b → ⊥
-    not-zero a b p q r = omega arith
+root-of-zero (fin s (suc m) e) h = absurd (not-equal s m e h)
 
-zero-eq : (s : Bool) (a b : ℕ) → a ≡ 0 → b ≡ 0 → (eqb a b && (Bool·beq s false || eqb a 0)) ≡ true
-zero-eq true a b p q = ap (λ (y : ℕ). eqb y b && (false || eqb y 0)) p ∙ ap (λ (y : ℕ). eqb 0 y && (false || true)) q
-zero-eq false a b p q = ap (λ (y : ℕ). eqb y b && true) p ∙ ap (λ (y : ℕ). eqb 0 y && true) q
-
-pub no-root : (x : Float) → lt zero-float x ≡ false → eq x zero-float ≡ false → root x ≡ nan
-unfolding root eq lt
+pub no-root : (x : Float) → lt plusZero x ≡ false → eq x plusZero ≡ false → root x ≡ nan
+unfolding root lt
 no-root nan h k = refl
 no-root (inf true) h k = refl
 no-root (inf false) h k = absurd (true-not-false h)
-no-root (fin s zero e) h k = absurd (true-not-false (sym (zero-eq s (0 * up e * 1) (0 * 1 * down e) (ap (λ (y : ℕ). y * 1) (zero-mul (up e))) (ap (λ (y : ℕ). y * down e) (zero-mul 1) ∙ zero-mul (down e))) ∙ k))
+no-root (fin s zero e) h k = absurd (true-not-false (sym (zero-equal s e) ∙ k))
 no-root (fin true (suc m) e) h k = refl
-no-root (fin false (suc m) e) h k =
-    absurd (true-not-false (sym (is-true (ltb (0 * 1 * down e) (suc m * up e * 1)) (lt→ltb (0 * 1 * down e) (suc m * up e * 1) (subst (λ (y : ℕ). y < suc m * up e * 1) (sym (ap (λ (y : ℕ). y * down e) (zero-mul 1) ∙ zero-mul (down e))) (mul-pos (mul-pos (zero-lt-suc m) (up-pos e)) (zero-lt-suc 0))))) ∙ h))
+no-root (fin false (suc m) e) h k = absurd (true-not-false (sym (plus-above m e) ∙ h))
 
 -- ---- a pattern below the infinity's is no NaN's
 

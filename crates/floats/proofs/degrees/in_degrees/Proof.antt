@@ -1,14 +1,10 @@
--- `degrees::in_degrees` meets its contract. Assumes nothing.
-use mathlib.Core.Path.{_≡_, sym, ap, _∙_}
-use mathlib.Core.Bool.{Bool, false, _&&_}
+-- `degrees::in_degrees` meets its contract: the second test is asked only where the first is passed. Assumes nothing.
+use mathlib.Core.Path.{sym, ap, _∙_}
+use mathlib.Core.Bool.{Bool, _&&_}
 use Rattle.floats.specs.Degrees.{within}
 use borrow.Author.Needs.{needs}
 use Rattle.floats.proofs.degrees.in_degrees.Statement.{statement}
 use Rattle.floats.proofs.degrees.in_degrees.Tie as tie
-use Rattle.floats.proofs.degrees.in_degrees.Reads as reads
-use Rattle.floats.proofs.degrees.in_degrees.Lts as lts
-use Rattle.floats.proofs.degrees.within_180.Reads as within-180-reads
-use Rattle.floats.proofs.degrees.within_90.Reads as within-90-reads
 
 within-90-requires : tie.Need-within-90-requires
 within-90-requires c κs = search needs

@@ -1,22 +1,18 @@
--- `degrees::within_90` meets its contract. Assumes nothing.
-use mathlib.Core.Path.{_≡_, sym, ap, _∙_}
-use mathlib.Core.Bool.{Bool, false, _&&_}
+-- `degrees::within_90` meets its contract: 90 is 45 * 2 ^ 1. Assumes nothing.
+use mathlib.Core.Bool.{true, false}
 use lib.Dec.{lit<}
-use lib.IntN.{pos}
-use lib.Ieee.{fin, le, neg, ofBits}
-use Rattle.floats.proofs.Tests.{range}
+use lib.Ieee.{neg, ofBits}
+use Rattle.floats.proofs.Tests.{range-by}
 use Rattle.floats.proofs.degrees.within_90.Statement.{statement}
 use Rattle.floats.proofs.degrees.within_90.Tie as tie
-use Rattle.floats.proofs.degrees.within_90.Reads as reads
-use Rattle.floats.proofs.degrees.within_90.Lts as lts
 
 returns : tie.Need-returns
 unfolding ofBits neg
-returns c = let x = c .before .args .x in ap (λ (b : Bool). b && le x (fin false 45 (pos 1))) (sym (c .if1 .taken)) ∙ range 45 1 x (lit< tt)
+returns c = range-by 45 1 (c .before .args .x) true (lit< tt) (c .if1 .taken)
 
 returns-2 : tie.Need-returns-2
 unfolding ofBits neg
-returns-2 c = let x = c .before .args .x in ap (λ (b : Bool). b && le x (fin false 45 (pos 1))) (sym (c .if1 .left)) ∙ range 45 1 x (lit< tt)
+returns-2 c = range-by 45 1 (c .before .args .x) false (lit< tt) (c .if1 .left)
 
 pub within-90-spec : {M : Type 1} → statement M
 within-90-spec = tie.close (tie.spec returns returns-2)

@@ -1,16 +1,9 @@
--- `horizon::allowance_km` meets its contract.  Assumes nothing.
-use mathlib.Core.Path.{_≡_, refl, sym, ap, _∙_, subst}
-use mathlib.Core.Bool.{Bool, cond}
-use lib.Ieee.{Float, binary64, add, mul, sub}
-use Rattle.floats.specs.Root.{root}
-use Rattle.floats.specs.Horizon.{horizon, allowance, fourTwelve, elevenTenths, twenty, atLeastZero}
-use Rattle.floats.proofs.Literals.{four-twelve, eleven-tenths, twenty-is}
+-- `horizon::allowance_km` meets its contract: its two literals are the definition's. Assumes nothing.
+use Rattle.floats.specs.Horizon.{horizon, allowance}
+use Rattle.floats.proofs.Literals.{eleven-tenths, twenty-is}
 use borrow.Author.Needs.{needs}
 use Rattle.floats.proofs.horizon.allowance_km.Statement.{statement}
 use Rattle.floats.proofs.horizon.allowance_km.Tie as tie
-use Rattle.floats.proofs.horizon.allowance_km.Reads as reads
-use Rattle.floats.proofs.horizon.allowance_km.Lts as lts
-use Rattle.floats.proofs.horizon.horizon_km.Reads as horizon-km-reads
 
 horizon-km-requires : tie.Need-horizon-km-requires
 horizon-km-requires c κs = search needs

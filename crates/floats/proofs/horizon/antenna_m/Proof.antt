@@ -1,7 +1,7 @@
--- `horizon::antenna_m` meets its contract. Assumes nothing.
+-- `horizon::antenna_m` meets its contract: an altitude above 0 is kept, and any other gives the 100 of 0. Assumes nothing.
 use mathlib.Core.Path.{_≡_, refl, sym, ap, _∙_, subst}
-use mathlib.Core.Bool.{Bool, true, false}
-use Prim.Native.Nat.{ℕ, zero, suc}
+use mathlib.Core.Bool.{true, false}
+use Prim.Native.Nat.{zero, suc}
 use native.Mathlib.Nat.{zero-lt-suc}
 use lib.Dec.{T, ltb, lt→ltb}
 use lib.IntN.{ℤ, pos, negsuc}
@@ -11,17 +11,12 @@ use mir.Syntax.{w32}
 use mir.Val.{toZ, ofZ}
 use mir.Facts.{toZ-ofZ}
 use Rattle.floats.specs.Horizon.{antennaOf, hundred}
+use Rattle.floats.proofs.Literals.{hundred-is}
 use borrow.Author.Needs.{needs}
 use Rattle.floats.proofs.horizon.antenna_m.Statement.{statement}
 use Rattle.floats.proofs.horizon.antenna_m.Tie as tie
-use Rattle.floats.proofs.horizon.antenna_m.Reads as reads
-use Rattle.floats.proofs.horizon.antenna_m.Lts as lts
 
-hundred-is : hundred ≡ ofBits binary64 4636737291354636288
-unfolding hundred ofBits
-hundred-is = refl
-
-nothing-is : add binary64 (ofInt binary64 (pos 0)) hundred ≡ ofBits binary64 4636737291354636288
+nothing-is : add binary64 (ofInt binary64 (pos 0)) hundred ≡ ofBits binary64 0x4059_0000_0000_0000
 unfolding hundred ofBits add ofInt
 nothing-is = refl
 

@@ -1,7 +1,7 @@
 -- `horizon::at_least_zero` meets its contract: the literal 0.0 is `plusZero`. Assumes nothing.
-use mathlib.Core.Path.{_≡_, sym, ap}
+use mathlib.Core.Path.{sym, ap}
 use mathlib.Core.Bool.{Bool, cond}
-use lib.Ieee.{Float, ofBits}
+use lib.Ieee.{ofBits}
 use Rattle.floats.specs.Horizon.{atLeastZero, plusZero}
 use Rattle.floats.proofs.horizon.at_least_zero.Statement.{statement}
 use Rattle.floats.proofs.horizon.at_least_zero.Tie as tie

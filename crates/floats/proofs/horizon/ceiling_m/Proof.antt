@@ -1,16 +1,9 @@
--- `horizon::ceiling_m` meets its contract. Assumes nothing.
-use mathlib.Core.Path.{_≡_, refl, sym, ap}
-use lib.Ieee.{Float, binary64, mul, ofBits}
-use Rattle.floats.specs.Horizon.{ceilingOf, foot}
+-- `horizon::ceiling_m` meets its contract: the feet are whole, and the literal is `foot`. Assumes nothing.
+use Rattle.floats.specs.Horizon.{ceilingOf}
+use Rattle.floats.proofs.Literals.{foot-is}
 use borrow.Author.Needs.{needs}
 use Rattle.floats.proofs.horizon.ceiling_m.Statement.{statement}
 use Rattle.floats.proofs.horizon.ceiling_m.Tie as tie
-use Rattle.floats.proofs.horizon.ceiling_m.Reads as reads
-use Rattle.floats.proofs.horizon.ceiling_m.Lts as lts
-
-foot-is : foot ≡ ofBits binary64 4599162408583596029
-unfolding foot ofBits
-foot-is = refl
 
 add-feet : tie.Need-add-feet
 add-feet c = search needs

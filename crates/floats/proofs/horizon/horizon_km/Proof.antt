@@ -1,17 +1,9 @@
 -- `horizon::horizon_km` meets its contract. The calls give the two roots, and the literal is `fourTwelve`. Assumes nothing.
-use mathlib.Core.Path.{_≡_, refl, sym, ap, _∙_, subst}
-use mathlib.Core.Bool.{Bool, cond}
-use lib.Ieee.{Float, binary64, add, mul, sub}
-use Rattle.floats.specs.Root.{root}
-use Rattle.floats.specs.Horizon.{horizon, allowance, fourTwelve, elevenTenths, twenty, atLeastZero}
-use Rattle.floats.proofs.Literals.{four-twelve, eleven-tenths, twenty-is}
+use Rattle.floats.specs.Horizon.{horizon, fourTwelve}
+use Rattle.floats.proofs.Literals.{four-twelve}
 use borrow.Author.Needs.{needs}
 use Rattle.floats.proofs.horizon.horizon_km.Statement.{statement}
 use Rattle.floats.proofs.horizon.horizon_km.Tie as tie
-use Rattle.floats.proofs.horizon.horizon_km.Reads as reads
-use Rattle.floats.proofs.horizon.horizon_km.Lts as lts
-use Rattle.floats.proofs.horizon.at_least_zero.Reads as at-least-zero-reads
-use Rattle.floats.proofs.root.sqrt.Reads as sqrt-reads
 
 at-least-zero-requires : tie.Need-at-least-zero-requires
 at-least-zero-requires c κs = search needs

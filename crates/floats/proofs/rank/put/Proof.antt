@@ -1,17 +1,13 @@
 -- `rank::put` meets its contract: each turn is `smaller` or `larger` of `proofs/Lists.antt`. Assumes nothing.
-use mathlib.Core.Path.{_≡_, refl, sym, ap, _∙_, subst}
-use mathlib.Core.List.{List, [], _∷_, _++_}
-use Prim.Native.Nat.{ℕ, _+_, _-_, _≤_, _<_}
+use mathlib.Core.Path.{_≡_, refl, _∙_, subst}
+use mathlib.Core.List.{_++_}
+use Prim.Native.Nat.{ℕ, _+_, _-_, _≤_}
 use native.Mathlib.Omega.{arith}
-use lib.ListN.{length, length-set, take, drop, getD, set}
+use lib.ListN.{length, length-set, take, drop}
 use Rattle.floats.proofs.Lists.{smaller, larger, last}
-use borrow.Author.Needs.{needs}
-use lib.Ieee.{Float, lt}
 use Rattle.floats.specs.Rank.{insert}
 use Rattle.floats.proofs.rank.put.Statement.{statement}
 use Rattle.floats.proofs.rank.put.Tie as tie
-use Rattle.floats.proofs.rank.put.Reads as reads
-use Rattle.floats.proofs.rank.put.Lts as lts
 
 abbrev Inv-loop : tie.InvT-loop
 Inv-loop n x a₀ c₀ i₀ a c i = (i ≤ n) × (length a ≡ 72) × (take i a ++ insert c (drop i (take n a)) ≡ insert x (take n a₀))

@@ -1,12 +1,10 @@
 -- `root::isqrt54` meets its contract: the guess falls, and is never below the root. Assumes nothing.
-use Prim.Native.Nat.{ℕ, _+_, _*_, _/_, _^_, _≤_, _<_}
-use native.Mathlib.Nat.{le-trans, div-le-self}
+use Prim.Native.Nat.{_+_, _*_, _^_, _≤_, _<_}
+use native.Mathlib.Nat.{div-le-self}
 use native.Mathlib.Omega.{arith}
 use Rattle.floats.proofs.Newton.{newton-above, newton-below, sq-pos, sq-le}
 use Rattle.floats.proofs.root.isqrt54.Statement.{statement}
 use Rattle.floats.proofs.root.isqrt54.Tie as tie
-use Rattle.floats.proofs.root.isqrt54.Reads as reads
-use Rattle.floats.proofs.root.isqrt54.Lts as lts
 
 abbrev Inv-loop : tie.InvT-loop
 Inv-loop p r₀ r = (p < (r + 1) * (r + 1)) × (r ≤ 2 ^ 27)

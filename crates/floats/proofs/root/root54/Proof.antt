@@ -1,14 +1,10 @@
 -- `root::root54` meets its contract: the facts are those of `proofs/Steps.antt`. Assumes nothing.
 use Prim.Native.Nat.{ℕ, _+_, _-_, _*_, _/_, _%_, _^_, _≤_, _<_}
-use native.Mathlib.Nat.{le-trans, mul-le-mul-right}
 use native.Mathlib.Omega.{arith}
 use Rattle.floats.proofs.Newton.{s-low, s-high, rest-le, quo-le, quo-sq, rem-lt, kept, one-less, root-lt}
 use borrow.Author.Needs.{needs}
 use Rattle.floats.proofs.root.root54.Statement.{statement}
 use Rattle.floats.proofs.root.root54.Tie as tie
-use Rattle.floats.proofs.root.root54.Reads as reads
-use Rattle.floats.proofs.root.root54.Lts as lts
-use Rattle.floats.proofs.root.isqrt54.Reads as isqrt54-reads
 
 -- what `isqrt54` gives
 whole : (c : tie.After-isqrt54) → let s = c .isqrt54 .result in (s * s ≤ c .before .args .p) × (c .before .args .p < (s + 1) * (s + 1))

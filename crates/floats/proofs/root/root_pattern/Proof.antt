@@ -1,15 +1,13 @@
--- `root::root_pattern` meets its contract. Assumes nothing.
+-- `root::root_pattern` meets its contract: the loop keeps n * 2 ^ k, and `pattern-of` reads the result. Assumes nothing.
 use mathlib.Core.Path.{_≡_, refl, sym, ap, _∙_, subst}
-use Prim.Native.Nat.{ℕ, zero, suc, _+_, _-_, _*_, _/_, _%_, _^_, _≤_, _<_}
-use native.Mathlib.Nat.{le-trans, le-of-eq, lt-irrefl, lt-of-le-of-lt, mul-le-mul-left, mul-assoc, mul-one, pow-succ'}
+use Prim.Native.Nat.{ℕ, zero, suc, _+_, _-_, _*_, _%_, _^_, _≤_, _<_}
+use native.Mathlib.Nat.{lt-irrefl, mul-assoc, mul-one, pow-succ'}
 use native.Mathlib.Omega.{arith}
-use borrow.Author.Needs.{needs}
-use Rattle.floats.proofs.Pattern.{pattern-is, r-low}
+use Rattle.floats.proofs.Whole.{twice-at-most, once-at-least}
+use Rattle.floats.proofs.Guess.{nearest-le}
+use Rattle.floats.proofs.Pattern.{pattern-of}
 use Rattle.floats.proofs.root.root_pattern.Statement.{statement}
 use Rattle.floats.proofs.root.root_pattern.Tie as tie
-use Rattle.floats.proofs.root.root_pattern.Reads as reads
-use Rattle.floats.proofs.root.root_pattern.Lts as lts
-use Rattle.floats.proofs.root.root54.Reads as root54-reads
 
 -- n * 2 ^ k is what m * 2 ^ h was
 record Normal (m h n k : ℕ) : Type 0 where
@@ -33,21 +31,6 @@ shifted n (suc k) h = ap (λ (x : ℕ). n * 2 * 2 ^ x) (less k) ∙ mul-assoc n 
   where
     less : (k : ℕ) → suc k - 1 ≡ k
     less k = omega arith
-
-twice-at-most : (n b : ℕ) → n < 2 ^ 53 → b < 2 → n * (b + 1) < 2 ^ 54
-twice-at-most n b h l = lt-of-le-of-lt (mul-le-mul-left n (at-most b l)) (below n h)
-  where
-    at-most : (b : ℕ) → b < 2 → b + 1 ≤ 2
-    at-most b l = omega arith
-
-    below : (n : ℕ) → n < 2 ^ 53 → n * 2 < 2 ^ 54
-    below n h = omega arith
-
-at-least : (n b : ℕ) → 2 ^ 52 ≤ n → 2 ^ 52 ≤ n * (b + 1)
-at-least n b h = le-trans h (le-trans (le-of-eq (sym (mul-one n))) (mul-le-mul-left n (some b)))
-  where
-    some : (b : ℕ) → 1 ≤ b + 1
-    some b = omega arith
 
 abbrev Inv-loop : tie.InvT-loop
 Inv-loop m h n₀ k₀ n k = Normal m h n k
@@ -80,34 +63,38 @@ loop-again c =
       large = i .large;
     }
 
-add-root54 : tie.Need-add-root54 Inv-loop μ-loop
-add-root54 c = omega arith
-
-mul-root54 : tie.Need-mul-root54 Inv-loop μ-loop
-mul-root54 c = omega (arith, twice-at-most (c .before .loop .n) (c .before .loop .k % 2) (c .before .loop .inv .digits) (omega arith))
-
-root54-requires : tie.Need-root54-requires Inv-loop μ-loop
-root54-requires c κs = (at-least (c .before .loop .n) (c .before .loop .k % 2) (c .loop-test .left), twice-at-most (c .before .loop .n) (c .before .loop .k % 2) (c .before .loop .inv .digits) (omega arith))
+twice : (n k : ℕ) → n < 2 ^ 53 → n * (k % 2 + 1) < 2 ^ 54
+twice n k h = twice-at-most n (k % 2) h (omega arith)
 
 add-result : tie.Need-add-result Inv-loop μ-loop
 add-result c = omega arith
 
 mul-result : tie.Need-mul-result Inv-loop μ-loop
-mul-result c = omega arith
+mul-result c = omega (arith, c .before .loop .inv .places)
+
+add-nearest54 : tie.Need-add-nearest54 Inv-loop μ-loop
+add-nearest54 c = omega arith
+
+mul-nearest54 : tie.Need-mul-nearest54 Inv-loop μ-loop
+mul-nearest54 c = omega (arith, twice (c .before .loop .n) (c .before .loop .k) (c .before .loop .inv .digits))
+
+nearest54-requires : tie.Need-nearest54-requires Inv-loop μ-loop
+nearest54-requires c κs = (once-at-least (c .before .loop .n) (c .before .loop .k % 2) (c .loop-test .left), twice (c .before .loop .n) (c .before .loop .k) (c .before .loop .inv .digits))
+
+-- the nearest has 53 digits, or is the number after them
+small : (c : tie.After-nearest54 Inv-loop μ-loop) → c .nearest54 .result ≤ 2 ^ 53
+small c =
+    let l = c .before .before .loop in
+    subst (λ (r : ℕ). r ≤ 2 ^ 53) (sym (c .nearest54 .ensures)) (nearest-le (l .n * (l .k % 2 + 1)) (twice (l .n) (l .k) (l .inv .digits)))
 
 add-result-2 : tie.Need-add-result-2 Inv-loop μ-loop
-add-result-2 c = omega arith
-
-add-result-3 : tie.Need-add-result-3 Inv-loop μ-loop
-add-result-3 c = omega arith
+add-result-2 c = omega (arith, small c, c .before .before .loop .inv .places)
 
 returns : tie.Need-returns Inv-loop μ-loop
 returns c =
-    let l = c .before .before .loop in
-    let r = c .root54 .result in
-    let post = c .root54 .ensures in (
-      λ u e. pattern-is u (l .n) (l .k) r (c .before .loop-test .left) (l .inv .digits) (l .inv .same ∙ e) (post .0) (post .1) (l .inv .places) (post .2),
-      omega (arith, l .inv .places, post .2),
+    let l = c .before .before .loop in (
+      λ u e. pattern-of u (l .n) (l .k) (c .nearest54 .result) (c .before .loop-test .left) (l .inv .digits) (l .inv .same ∙ e) (l .inv .places) (c .nearest54 .ensures),
+      omega (arith, small c, l .inv .places),
     )
 
 pub root-pattern-spec : {M : Type 1} → statement M
@@ -121,11 +108,10 @@ root-pattern-spec =
     sub-k
     loop-less
     loop-again
-    add-root54
-    mul-root54
-    root54-requires
     add-result
     mul-result
+    add-nearest54
+    mul-nearest54
+    nearest54-requires
     add-result-2
-    add-result-3
     returns)

@@ -1,26 +1,26 @@
 -- `root::sqrt` meets its contract: each of its needs is a fact of `proofs/Value.antt`. Assumes nothing.
 use mathlib.Core.Path.{_≡_, refl, sym, ap, _∙_, subst}
-use mathlib.Core.Bool.{true, false}
-use Prim.Native.Nat.{ℕ, zero, suc, _+_, _-_, _*_, _/_, _%_, _^_, _≤_, _<_}
-use native.Mathlib.Nat.{mul-assoc, mul-le-mul-left, mul-le-mul-right, le-trans, le-of-eq, mul-one}
+use mathlib.Core.Bool.{true}
+use Prim.Native.Nat.{ℕ, suc, _+_, _-_, _*_, _/_, _%_, _^_, _≤_, _<_}
+use native.Mathlib.Nat.{mul-assoc}
 use native.Mathlib.Omega.{arith}
 use lib.Dec.{T}
-use lib.Pow.{pow-add, pow-pos, pow-mono}
-use lib.Ieee.{Float, binary64, fits, lt, eq, div, ofBits, toBits}
-use Rattle.floats.specs.Root.{root, rootUnits}
-use Rattle.floats.proofs.Value.{zero-float, Above, above, above-no-nan, subnormal-pos, subnormal, infinite, normal, root-of-zero, no-root, pattern-no-nan}
+use lib.Pow.{pow-add}
+use lib.Ieee.{binary64, fits, lt, div, ofBits, toBits}
+use Rattle.floats.specs.Root.{root}
+use Rattle.floats.specs.Horizon.{plusZero}
+use Rattle.floats.proofs.Value.{Above, above, above-no-nan, subnormal-pos, subnormal, infinite, normal, root-of-zero, no-root, pattern-no-nan}
+use Rattle.floats.proofs.Guess.{nearest, nearest-le}
+use Rattle.floats.proofs.Pattern.{pattern-of}
 use borrow.Author.Needs.{needs}
 use Rattle.floats.proofs.root.sqrt.Statement.{statement}
 use Rattle.floats.proofs.root.sqrt.Tie as tie
-use Rattle.floats.proofs.root.sqrt.Reads as reads
-use Rattle.floats.proofs.root.sqrt.Lts as lts
-use Rattle.floats.proofs.root.root_pattern.Reads as root-pattern-reads
 
 -- what owning an `f64` tells: the format holds it
 held : (c : tie.Start) → T (fits binary64 (c .args .x))
 held c = subst T (sym (c .good .0 .1)) tt
 
-is-above : (c : tie.Then1) → lt zero-float (c .before .args .x) ≡ true
+is-above : (c : tie.Then1) → lt plusZero (c .before .args .x) ≡ true
 unfolding ofBits
 is-above c = c .if1 .taken
 
@@ -37,11 +37,22 @@ shift m e h = ap (λ (x : ℕ). m * 2 ^ x) (split e h) ∙ ap (λ (x : ℕ). m *
     split : (e : ℕ) → (e ≡ 0 → ⊥) → e + 51 ≡ e - 1 + 52
     split e h = omega arith
 
-large : (t e : ℕ) → 2 ^ 52 ≤ (t + 2 ^ 52) * 2 ^ e
-large t e = le-trans (at-least t) (le-trans (le-of-eq (sym (mul-one (t + 2 ^ 52)))) (mul-le-mul-left (t + 2 ^ 52) (pow-pos e)))
-  where
-    at-least : (t : ℕ) → 2 ^ 52 ≤ t + 2 ^ 52
-    at-least t = omega arith
+-- a pattern that is not the infinity's is below it
+below-infinity : (b : ℕ) → b < 2 ^ 63 → (b / 2 ^ 52 ≡ 2047 → ⊥) → b < 0x7ff0_0000_0000_0000
+below-infinity b h n = omega arith
+
+normal-bits : (c : tie.Else3) → toBits binary64 (c .before .before .before .args .x) < 0x7ff0_0000_0000_0000
+normal-bits c = below-infinity (toBits binary64 (c .before .before .before .args .x)) (pattern (c .before .before) .small) (c .if3 .left)
+
+-- the nearest has 53 digits, or is the number after them
+small : (c : tie.After-nearest-by) → c .nearest-by .result ≤ 2 ^ 53
+small c =
+    let d = c .before .before .digits in
+    subst (λ (r : ℕ). r ≤ 2 ^ 53) (sym (c .nearest-by .ensures)) (nearest-le (d .result) (d .ensures .2))
+
+-- the half of the exponent's field
+half : (e : ℕ) → (e + 1021) / 2 ≡ (e + 51) / 2 + 485
+half e = omega arith
 
 float-to-bits-b : tie.Need-float-to-bits-b
 float-to-bits-b c = above-no-nan (c .before .args .x) (is-above c)
@@ -64,28 +75,40 @@ returns c =
 returns-2 : tie.Need-returns-2
 returns-2 c = let x = c .before .before .before .args .x in sym (infinite x (toBits binary64 x) (pattern (c .before .before)) (is-above (c .before .before)) (c .if3 .taken))
 
-add-root-pattern : tie.Need-add-root-pattern
-add-root-pattern c = search needs
+digits-requires : tie.Need-digits-requires
+digits-requires c κs = normal-bits c
 
-add-root-pattern-2 : tie.Need-add-root-pattern-2
-add-root-pattern-2 c = omega (arith, pattern (c .before .before) .small)
+guess-requires : tie.Need-guess-requires
+guess-requires c κs = normal-bits (c .before)
 
-root-pattern-requires-2 : tie.Need-root-pattern-requires-2
-root-pattern-requires-2 c κs =
-    let b = toBits binary64 (c .before .before .before .args .x) in
-    (omega arith, omega arith, omega (arith, pattern (c .before .before) .small, c .if3 .left), large (b % 2 ^ 52) (b / 2 ^ 52 + 51))
+nearest-by-requires : tie.Need-nearest-by-requires
+nearest-by-requires c κs = search needs
+
+add-result : tie.Need-add-result
+add-result c = omega (arith, normal-bits (c .before .before .before))
+
+mul-result : tie.Need-mul-result
+mul-result c = omega (arith, normal-bits (c .before .before .before))
+
+add-result-2 : tie.Need-add-result-2
+add-result-2 c = omega (arith, normal-bits (c .before .before .before), small c)
 
 float-from-bits-result-2 : tie.Need-float-from-bits-result-2
-float-from-bits-result-2 c = pattern-no-nan (c .root-pattern2 .result) (c .root-pattern2 .ensures .1)
+float-from-bits-result-2 c = pattern-no-nan _ (omega (arith, normal-bits (c .before .before .before), small c))
 
 returns-3 : tie.Need-returns-3
 returns-3 c =
-    let x = c .before .before .before .before .args .x in
+    let e3 = c .before .before .before in
+    let then1 = e3 .before .before in
+    let x = then1 .before .args .x in
     let b = toBits binary64 x in
     let e = b / 2 ^ 52 in
-    let n : e ≡ 0 → ⊥ = c .before .before .if2 .left in
-    c .root-pattern2 .ensures .0 ((b % 2 ^ 52 + 2 ^ 52) * 2 ^ (e - 1)) (shift (b % 2 ^ 52 + 2 ^ 52) e n)
-    ∙ sym (normal x b (pattern (c .before .before .before)) (is-above (c .before .before .before)) (e - 1) (place e n) (λ q. c .before .if3 .left (place e n ∙ q)))
+    let t = b % 2 ^ 52 in
+    let n : e ≡ 0 → ⊥ = e3 .before .if2 .left in
+    let d = c .before .before .digits in
+    ap (λ (y : ℕ). ofBits binary64 (y * 2 ^ 52 + c .nearest-by .result)) (half e)
+    ∙ pattern-of ((t + 2 ^ 52) * 2 ^ (e - 1)) (t + 2 ^ 52) (e + 51) (c .nearest-by .result) (omega arith) (omega arith) (shift (t + 2 ^ 52) e n) (omega (arith, normal-bits e3)) (c .nearest-by .ensures ∙ ap nearest (d .ensures .0))
+    ∙ sym (normal x b (pattern then1) (is-above then1) (e - 1) (place e n) (λ q. e3 .if3 .left (place e n ∙ q)))
 
 returns-4 : tie.Need-returns-4
 unfolding ofBits
@@ -104,9 +127,12 @@ sqrt-spec =
     float-from-bits-result
     returns
     returns-2
-    add-root-pattern
-    add-root-pattern-2
-    root-pattern-requires-2
+    digits-requires
+    guess-requires
+    nearest-by-requires
+    add-result
+    mul-result
+    add-result-2
     float-from-bits-result-2
     returns-3
     returns-4

@@ -1,17 +1,14 @@
 -- `steps::half_up` meets its contract: twice y is exact, and half of what is left of it without its fraction, rounded up, is y rounded. Assumes nothing.
-use mathlib.Core.Path.{_≡_, refl, sym, ap, _∙_, subst}
-use Prim.Native.Nat.{ℕ, _+_, _*_, _/_, _^_, _≤_, _<_}
+use mathlib.Core.Path.{_≡_, sym, ap, _∙_, subst}
+use Prim.Native.Nat.{ℕ, _+_, _*_, _/_, _^_, _<_}
 use native.Mathlib.Nat.{div-lt-iff-lt-mul}
 use native.Mathlib.Omega.{arith}
 use lib.Dec.{T}
-use lib.Ieee.{Float, binary64, fits, mul, ofBits, toUnsigned}
+use lib.Ieee.{binary64, fits, ofBits}
 use lib.Ieee.Positive.{num, den, den-pos}
 use Rattle.floats.proofs.Scaled.{Twice, twice, in-range, cut, halved}
 use Rattle.floats.proofs.steps.half_up.Statement.{statement}
 use Rattle.floats.proofs.steps.half_up.Tie as tie
-use Rattle.floats.proofs.steps.half_up.Reads as reads
-use Rattle.floats.proofs.steps.half_up.Lts as lts
-use Rattle.std.proofs.num.truncating_f64_to_u64.Reads as truncating-f64-to-u64-reads
 
 held : (c : tie.Start) → T (fits binary64 (c .args .y))
 held c = subst T (sym (c .good .0 .1)) tt

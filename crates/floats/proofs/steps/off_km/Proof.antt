@@ -1,15 +1,12 @@
--- `steps::off_km` meets its contract. Assumes nothing.
-use mathlib.Core.Path.{_≡_, refl, sym, ap, _∙_, subst}
+-- `steps::off_km` meets its contract: the quotient is at most 160, so `half_up` takes it. Assumes nothing.
+use mathlib.Core.Path.{_≡_, sym, ap, _∙_, subst}
 use Prim.Native.Nat.{ℕ, _*_, _≤_, _<_, max}
 use native.Mathlib.Omega.{arith}
-use lib.Ieee.{Float, binary64, div, ofBits}
+use lib.Ieee.{binary64, div, ofBits}
 use Rattle.floats.specs.Steps.{halfAway, five, offOf}
-use Rattle.floats.proofs.Quotient.{Small, quotient}
+use Rattle.floats.proofs.Quotient.{quotient}
 use Rattle.floats.proofs.steps.off_km.Statement.{statement}
 use Rattle.floats.proofs.steps.off_km.Tie as tie
-use Rattle.floats.proofs.steps.off_km.Reads as reads
-use Rattle.floats.proofs.steps.off_km.Lts as lts
-use Rattle.floats.proofs.steps.half_up.Reads as half-up-reads
 
 steps-is : (c : tie.After-half-up) → c .half-up .result ≡ halfAway (div binary64 (c .before .args .km) five)
 unfolding ofBits

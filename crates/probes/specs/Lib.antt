@@ -1,0 +1,2 @@
+-- What the comparison runs ask that the relay does not.
+pub mod Probes

@@ -1,0 +1,49 @@
+// C functions for the comparison runs only: what the relay does not call, and what it calls under another name.
+ghost use mathlib.Core.Path.{_≡_};
+ghost use Rattle.floats.specs.Horizon.{horizon};
+ghost use Rattle.sites.specs.Sites.{placing};
+ghost use Rattle.probes.specs.Probes.{sameAnswer};
+use floats::degrees;
+use sites::Altitude;
+use sites::Site;
+
+// A site of no altitude.
+fn site_at(lat: f64, lon: f64) -> Site
+    ensures { λ r. ⌜ (r .lat ≡ lat) × (r .lon ≡ lon) ⌝ }
+{
+    Site {
+        lat: lat,
+        lon: lon,
+        alt_m: Altitude::Unknown,
+    }
+}
+
+// 1 where the two are one place, 0 where not, 4 for a "no" to question 4.
+#[no_mangle]
+pub extern "C" fn probe_same_place(lat1: f64, lon1: f64, lat2: f64, lon2: f64) -> u8
+    ensures { λ r. ⌜ r ≡ sameAnswer lat1 lon1 lat2 lon2 ⌝ }
+{
+    if degrees::in_degrees(lat1, lon1) {
+        if degrees::in_degrees(lat2, lon2) {
+            if sites::same_place(site_at(lat1, lon1), site_at(lat2, lon2)) {
+                return 1;
+            }
+            return 0;
+        }
+    }
+    4
+}
+
+#[no_mangle]
+pub extern "C" fn probe_place(site_lat: f64, site_lon: f64, lat: f64, lon: f64) -> u16
+    ensures { λ r. ⌜ r ≡ placing «site_lat» «site_lon» lat lon ⌝ }
+{
+    sites::place(site_lat, site_lon, lat, lon)
+}
+
+#[no_mangle]
+pub extern "C" fn probe_horizon_km(antenna_m: f64, aircraft_m: f64) -> f64
+    ensures { λ r. ⌜ r ≡ horizon «antenna_m» «aircraft_m» ⌝ }
+{
+    floats::horizon::horizon_km(antenna_m, aircraft_m)
+}

@@ -1,0 +1,2 @@
+-- The proved sheet of document 01.
+pub mod Sheet

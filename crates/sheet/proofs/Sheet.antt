@@ -1,0 +1,63 @@
+-- 01, 'Proved sheet': each line as theorems about the definitions that the contracts cite, in its order.
+-- Assumes nothing.
+use mathlib.Core.Path.{_≡_, refl}
+use mathlib.Core.Bool.{true, false}
+use lib.IntN.{pos, negsuc}
+use lib.Ieee.{binary64, round, mul}
+use Rattle.angles.specs.Ticks.{deg}
+use Rattle.angles.specs.Series.{sinH, cosR, term}
+use Rattle.angles.specs.Angle.{sinQ, cosQ, sinHalf, cosHalf, sine, cosine}
+use Rattle.angles.specs.Plane.{near, column}
+use Rattle.angles.specs.Bearing.{sector}
+use Rattle.floats.specs.Horizon.{horizon, fourTwelve, plusZero}
+use Rattle.floats.specs.Steps.{offOf}
+use Rattle.floats.proofs.Sheet as floats
+
+-- ---- P1: 'off 7.4 gives 5; 7.5 gives 10; 0 gives 5.'
+pub p1-seven-four : offOf (round binary64 false 74 10) ≡ 5
+p1-seven-four = floats.p1-low
+
+pub p1-seven-five : offOf (round binary64 false 75 10) ≡ 10
+p1-seven-five = floats.p1-high
+
+pub p1-zero : offOf plusZero ≡ 5
+p1-zero = floats.p1-zero
+
+-- ---- P4: 'sector of (1,1), (−1,1), (0,−2): 1, 7, 4.' The pairs are (east, north); `negsuc n` is −(n + 1).
+pub p4-north-east : sector (pos 1) (pos 1) ≡ 1
+unfolding sector
+p4-north-east = refl
+
+pub p4-north-west : sector (negsuc 0) (pos 1) ≡ 7
+unfolding sector
+p4-north-west = refl
+
+pub p4-south : sector (pos 0) (negsuc 1) ≡ 4
+unfolding sector
+p4-south = refl
+
+-- ---- P5: 'east 99,999,999: column 39; −99,999,999: 0; ±100,000,000: far.'
+pub p5-last : (near (pos 99999999) ≡ true) × (column (pos 99999999) ≡ 39)
+unfolding near column
+p5-last = (refl, refl)
+
+pub p5-first : (near (negsuc 99999998) ≡ true) × (column (negsuc 99999998) ≡ 0)
+unfolding near column
+p5-first = (refl, refl)
+
+pub p5-far : (near (pos 100000000) ≡ false) × (near (negsuc 99999999) ≡ false)
+unfolding near
+p5-far = (refl, refl)
+
+-- ---- P8: '`horizon_km`(−5, 4) is twice the float 4.12.'
+pub p8 : horizon floats.minus-five floats.four ≡ mul binary64 floats.two fourTwelve
+p8 = floats.p8
+
+-- ---- Not of 01's sheet: at exactly 45 degrees sine and cosine have each their own series, and differ.
+pub sine-45 : sine (pos (deg 45)) ≡ pos 759250124
+unfolding sine sinHalf sinQ sinH term
+sine-45 = refl
+
+pub cosine-45 : cosine (pos (deg 45)) ≡ pos 759250126
+unfolding cosine cosHalf cosQ cosR term
+cosine-45 = refl

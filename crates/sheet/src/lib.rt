@@ -1,0 +1,1 @@
+// No code: the proved sheet is proofs/Sheet.antt.

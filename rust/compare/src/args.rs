@@ -1,0 +1,118 @@
+//! The command line.
+
+use crate::report::unhex;
+
+/// The names of the checks, in the order in which they run.
+pub const CHECKS: [&str; 6] = ["place", "coverage", "same", "horizon", "range", "judge"];
+
+/// What the command line asks for.
+#[derive(Debug, PartialEq)]
+pub struct Args {
+    /// Of all random numbers; printed.
+    pub seed: u64,
+    /// Inputs of each check but the judging.
+    pub count: u64,
+    /// Judgings aimed at each branch, at least.
+    pub judgings: u64,
+    /// The checks to run.
+    pub only: Vec<String>,
+    /// A skipped check counts as failed.
+    pub all: bool,
+    /// One input to show in place of the checks: a check's name and its floats.
+    pub input: Option<(String, Vec<f64>)>,
+}
+
+/// How it is called.
+pub const USAGE: &str =
+    "compare [--seed N] [--count N] [--judgings N] [--only CHECK,CHECK..] [--all]
+        compare --input place|same|horizon BITS..
+  --seed N       seed of the random inputs (1)
+  --count N      inputs of each of place, same, horizon and range (1,000,000)
+  --judgings N   judgings that reach each branch, at least (1,000)
+  --only LIST    of place, coverage, same, horizon, range, judge
+  --all          a check that is skipped counts as failed
+  --input ..     shows both answers to one input, its floats as 16 hex digits each, as a failure prints them";
+
+/// Reads the command line; the error says what is wrong with it.
+pub fn parse(words: impl Iterator<Item = String>) -> Result<Args, String> {
+    let mut args = Args {
+        seed: 1,
+        count: 1_000_000,
+        judgings: 1_000,
+        only: CHECKS.map(String::from).to_vec(),
+        all: false,
+        input: None,
+    };
+    let mut words = words;
+    while let Some(word) = words.next() {
+        if word == "--all" {
+            args.all = true;
+            continue;
+        }
+        let value = words.next().ok_or(format!("{word}: a value is missing"))?;
+        let number = || {
+            let digits = value.replace(['_', ','], "");
+            let whole: Result<u64, _> = digits.parse();
+            whole.map_err(|_| format!("{word}: {value} is no whole number"))
+        };
+        match word.as_str() {
+            "--seed" => args.seed = number()?,
+            "--count" => args.count = number()?,
+            "--judgings" => args.judgings = number()?,
+            "--input" => {
+                let bits: Option<Vec<f64>> = words.by_ref().map(|word| unhex(&word)).collect();
+                let floats = match value.as_str() {
+                    "place" | "same" => 4,
+                    "horizon" => 2,
+                    _ => return Err(format!("--input: not for {value}")),
+                };
+                let bits = bits.filter(|bits| bits.len() == floats);
+                let bits =
+                    bits.ok_or(format!("--input {value}: {floats} floats of 16 hex digits"))?;
+                args.input = Some((value, bits));
+            }
+            "--only" => {
+                args.only = value.split(',').map(String::from).collect();
+                if let Some(name) = args.only.iter().find(|n| !CHECKS.contains(&n.as_str())) {
+                    return Err(format!("--only: there is no check {name}"));
+                }
+            }
+            _ => return Err(format!("{word}: not known")),
+        }
+    }
+    Ok(args)
+}
+
+#[cfg(test)]
+mod tests {
+    use super::{CHECKS, parse};
+
+    fn words(line: &str) -> impl Iterator<Item = String> {
+        line.split_whitespace().map(String::from)
+    }
+
+    #[test]
+    fn what_is_said_is_read() {
+        let args = parse(words("--seed 7 --count 10,000 --only place,same --all")).expect("good");
+        assert_eq!((args.seed, args.count, args.all), (7, 10_000, true));
+        assert_eq!(args.only, ["place", "same"]);
+        let args = parse(words("")).expect("good");
+        assert_eq!(args.only, CHECKS);
+    }
+
+    #[test]
+    fn what_is_wrong_is_said() {
+        assert!(parse(words("--seed")).is_err());
+        assert!(parse(words("--count -3")).is_err());
+        assert!(parse(words("--only places")).is_err());
+        assert!(parse(words("--speed 3")).is_err());
+        assert!(parse(words("--input horizon 3ff0000000000000")).is_err());
+        assert!(parse(words("--input range 3ff0000000000000 3ff0000000000000")).is_err());
+    }
+
+    #[test]
+    fn an_input_is_read_bit_for_bit() {
+        let args = parse(words("--input horizon 3ff0000000000000 c000000000000000")).expect("good");
+        assert_eq!(args.input, Some(("horizon".to_string(), vec![1.0, -2.0])));
+    }
+}

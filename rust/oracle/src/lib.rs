@@ -1,0 +1,61 @@
+//! The original, unchanged, as an oracle. build.rs lays its two files into the build's folder;
+//! `reach.rs` is compiled as its `tests.rs`, a child module, and so reaches its private parts.
+//! Where the source is not there, [`FOUND`] is false and nothing else here may be called.
+
+/// A position or a site: latitude and longitude in degrees.
+pub type Degrees = (f64, f64);
+
+/// Cells of a row: two halves, each 1,600 grid cells and 72 far bins.
+pub const CELLS: usize = 3_344;
+
+/// The cells of one half.
+pub const HALF: usize = 1_672;
+
+/// What a row holds beside its cells, as the judging asks for it.
+#[derive(Clone, Copy, Debug, PartialEq, Eq)]
+pub struct Held {
+    /// None: no site. Some: a site with this altitude or none (its degrees are not asked).
+    pub site: Option<Option<i32>>,
+    /// The ids of the even and of the odd half.
+    pub ids: [Option<u64>; 2],
+}
+
+/// A judgment as one number: Unjudged 0, Fits 1, Wrong 4 × off + 1 (Horizon), 2 (NearField) or
+/// 3 (NothingNear).
+pub type Number = u32;
+
+/// The folder of the original, or the one in which it was looked for.
+pub const FOLDER: &str = include!(concat!(env!("OUT_DIR"), "/folder.rs"));
+
+/// Whether the original was there when this was built.
+pub const FOUND: bool = cfg!(original);
+
+/// The line that says that the comparison is skipped; None where the original is there.
+pub fn missing() -> Option<String> {
+    (!FOUND).then(|| {
+        format!(
+            "oracle: source not found (siting.rs and bounded.rs in {FOLDER}; SITING_RUST_SRC names another folder): comparison skipped"
+        )
+    })
+}
+
+/// The original's functions, private ones included (`reach.rs`).
+pub struct Original;
+
+/// The original's own counting of a position, for the place it counts it at (`reach.rs`).
+pub struct Counter {
+    #[cfg(original)]
+    heard: siting::Heard,
+}
+
+/// A row of the original with made-up cells (`reach.rs`).
+pub struct Row {
+    #[cfg(original)]
+    heard: siting::Heard,
+}
+
+#[cfg(original)]
+include!(concat!(env!("OUT_DIR"), "/original.rs"));
+
+#[cfg(not(original))]
+mod absent;
