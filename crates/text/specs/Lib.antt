@@ -1,0 +1,4 @@
+-- The definitions that the contracts cite.
+pub mod Text
+pub mod Numbers
+pub mod Print
