@@ -39,9 +39,11 @@ nearest-is p r h k =
         none p h k = omega arith
     positive p (suc r) h k = omega arith
 
+-- from the whole root of p * 2 ^ 54
 pub nearest-of : (p r : ℕ) → r * r ≤ p * 2 ^ 54 → p * 2 ^ 54 < (r + 1) * (r + 1) → (r + 1) / 2 ≡ nearest p
 nearest-of p r h k = ap (λ (i : ℕ). (i + 1) / 2) (sym (isqrt-unique (p * 2 ^ 54) r h k))
 
+-- 53 digits, or the number after them
 pub nearest-le : (p : ℕ) → p < 2 ^ 54 → nearest p ≤ 2 ^ 53
 nearest-le p h = omega (arith, root-lt p (isqrt (p * 2 ^ 54)) h (isqrt-is (p * 2 ^ 54) .0))
 
@@ -78,6 +80,7 @@ module _ (p q s t left w : ℕ) (digits : q ≡ s * 2 ^ 26 + t) (large : 2 ^ 26 
   level : w * 2 ^ 26 + t * 2 ≤ t * t + q + q * 2 → t * t + q < w * 2 ^ 26 + t * 2 → nearest p ≡ q
   level h k = nearest-is p q (omega (arith, rest, digits)) (omega (arith, rest, digits))
 
+  -- what the program makes of the guess
   pub set-right : let a = w * 2 ^ 26 + t * 2 in let b = t * t + q in q + cond (ltb (b + q * 2) a) 1 0 - cond (leb a b) 1 0 ≡ nearest p
   set-right =
       let a = w * 2 ^ 26 + t * 2 in

@@ -48,8 +48,9 @@ fn bit(b: bool) -> u64
     b as u64
 }
 
-// The same from a guess q. For q = s * 2 ^ 26 + t, p * 2 ^ 52 - q * q is d = ((p - s * s) * 2 ^ 26 - 2 * s * t) * 2 ^ 26 - t * t, with
-// w = the part in parentheses, and 2 * s to stay above 0. The nearest is q for -q < d <= q, and one more or one less for twice as much.
+// The same from a guess q = s * 2 ^ 26 + t. What the guess leaves, d = p * 2 ^ 52 - q * q, is (w - 2 * s) * 2 ^ 26 - t * t for the w below.
+// The nearest is q where -q < d <= q, and one more or one less where d is past that, but not by 2 * q: a w below 5 * s sees to it.
+// A wrapped difference is large, so each test passes only a true one.
 fn nearest_by(p: u64, q: u64) -> u64
     requires { ⌜ (2 ^ 52 ≤ p) × (p < 2 ^ 54) × (2 ^ 52 ≤ q) × (q < 2 ^ 53) ⌝ }
     ensures { λ r. ⌜ r ≡ (isqrt (p * 2 ^ 54) + 1) / 2 ⌝ }

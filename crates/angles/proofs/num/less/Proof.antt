@@ -1,4 +1,4 @@
--- `angles::angles::proofs::num::less` meets its contract: the difference fits, since both are small; the machine reads each number back from its bits.
+-- `angles::num::less` meets its contract: the difference fits, since both are small; the machine reads each number back from its bits.
 -- Assumes nothing.
 use native.Mathlib.Omega.{arith}
 use mathlib.Core.Path.{_≡_, ap, _∙_}

@@ -1,4 +1,4 @@
--- `angles::angles::proofs::site::seen_from` meets its contract: call by call; the machine reads each number back from its bits.
+-- `angles::site::seen_from` meets its contract: call by call; the machine reads each number back from its bits.
 -- Assumes nothing.
 use native.Mathlib.Omega.{arith}
 use mir.Syntax.{w64}

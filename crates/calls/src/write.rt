@@ -1,0 +1,78 @@
+// Answers as text, put into a buffer one after the other.
+use crate::reply::Fault;
+use crate::reply::Name;
+use crate::reply::Reply;
+use text::put;
+use text::put_bits;
+use text::put_decimal;
+
+fn put_name(out: &mut [u8], n: usize, name: Name) -> usize {
+    match name {
+        Name::Lat1 => put(out, n, b"LAT1"),
+        Name::Lon1 => put(out, n, b"LON1"),
+        Name::Lat2 => put(out, n, b"LAT2"),
+        Name::Lon2 => put(out, n, b"LON2"),
+        Name::A => put(out, n, b"A"),
+        Name::B => put(out, n, b"B"),
+    }
+}
+
+// A word that is no call, as far as it can be shown.
+fn put_word(out: &mut [u8], n: usize, word: &[u8]) -> usize {
+    let m = put(out, n, b"unknown call '");
+    let k = put(out, m, text::part(word, 0, text::shown(word)));
+    put(out, k, b"'")
+}
+
+fn put_fault(out: &mut [u8], n: usize, fault: Fault, line: &[u8]) -> usize {
+    match fault {
+        Fault::Missing(name) => {
+            let m = put_name(out, n, name);
+            put(out, m, b" missing")
+        }
+        Fault::NotNumber(name) => {
+            let m = put_name(out, n, name);
+            put(out, m, b" is not a number")
+        }
+        Fault::Extra(name) => {
+            let m = put(out, n, b"unexpected field after ");
+            put_name(out, m, name)
+        }
+        Fault::StraySpace => put(out, n, b"stray space"),
+        Fault::StrayReturn => put(out, n, b"stray carriage return"),
+        Fault::TooLong => put(out, n, b"line is longer than 1024 bytes"),
+        Fault::Unknown { end } => put_word(out, n, text::part(line, 0, end)),
+    }
+}
+
+fn put_error(out: &mut [u8], n: usize, fault: Fault, number: u64, line: &[u8]) -> usize {
+    let a = put(out, n, b"error ");
+    let b = put_decimal(out, a, number);
+    let c = put(out, b, b": ");
+    let d = put_fault(out, c, fault, line);
+    put(out, d, b"\n")
+}
+
+fn put_counted(out: &mut [u8], n: usize, word: &[u8], value: u64) -> usize {
+    let a = put(out, n, word);
+    let b = put_decimal(out, a, value);
+    put(out, b, b"\n")
+}
+
+fn put_float(out: &mut [u8], n: usize, word: &[u8], value: f64) -> usize {
+    let a = put(out, n, word);
+    let b = put_bits(out, a, text::bits_of(value));
+    put(out, b, b"\n")
+}
+
+// The answer to the line of that number, and its line end.
+pub fn put_reply(out: &mut [u8], n: usize, reply: Reply, number: u64, line: &[u8]) -> usize {
+    match reply {
+        Reply::Nothing => n,
+        Reply::Place(p) => put_counted(out, n, b"place ", p as u64),
+        Reply::Same(yes) => put_counted(out, n, b"same ", yes as u64),
+        Reply::Horizon(km) => put_float(out, n, b"horizon ", km),
+        Reply::No(question) => put_counted(out, n, b"no ", question as u64),
+        Reply::Wrong(fault) => put_error(out, n, fault, number, line),
+    }
+}
