@@ -10,6 +10,7 @@ ghost use mathlib.Core.Bool.{Bool, true, false};
 ghost use Prim.Native.Nat.{_≤_, _-_};
 ghost use lib.ListN.{length};
 ghost use Rattle.calls.specs.Buffers.{Within};
+ghost use Rattle.calls.specs.Replies.{replyTo};
 
 // What was read and not yet answered lies from `at` to `have` in the input's buffer, and `n` bytes of answers wait in the output's.
 pub struct State {
@@ -35,7 +36,9 @@ fn room(out: &[u8], n: usize) -> usize
     }
 }
 
-fn reply_to(line: &[u8], long: bool) -> Reply {
+fn reply_to(line: &[u8], long: bool) -> Reply
+    ensures { λ r. ⌜ r ≡ replyTo long (now (line .entry)) ⌝ }
+{
     if long {
         return Reply::Wrong(Fault::TooLong);
     }
@@ -46,7 +49,9 @@ fn reply_to(line: &[u8], long: bool) -> Reply {
 }
 
 // Puts the answer to a line.
-fn answer(line: &[u8], long: bool, number: u64, out: &mut [u8], n: usize) -> usize {
+fn answer(line: &[u8], long: bool, number: u64, out: &mut [u8], n: usize) -> usize
+    ensures { λ _. ⌜ length (now (out .exit)) ≡ length (now (out .entry)) ⌝ }
+{
     let at = room(out, n);
     write::put_reply(out, at, reply_to(line, long), number, line)
 }
@@ -149,7 +154,9 @@ fn step(s: State, buf: &mut [u8], out: &mut [u8]) -> State
 }
 
 // A proved loop has to end, and nothing says that the input does. So the loop counts its turns down, from a number that no run uses up.
-pub fn run(buf: &mut [u8], out: &mut [u8]) {
+pub fn run(buf: &mut [u8], out: &mut [u8])
+    ensures { λ _. ⌜ length (now (out .exit)) ≡ length (now (out .entry)) ⌝ }
+{
     let mut s = State {
         at: 0,
         have: 0,

@@ -6,8 +6,10 @@ use sites::Altitude;
 use sites::Site;
 use text::Field;
 use text::Real;
+ghost use mathlib.Core.Path.{_≡_};
+ghost use Rattle.calls.specs.Replies.{realAt, twoAt, restAt, fourAt, siteOf, sameOf, placeBy, sameBy, horizonBy, callOf, returnAtEnd, textReply, lineReply};
 
-// A number at a field, and where the next field starts.
+// A number at a field, and where the next field starts; or what is wrong.
 pub enum RealAt {
     Is(f64, usize),
     Wrong(Fault),
@@ -28,7 +30,9 @@ pub enum Rest {
     Wrong(Fault),
 }
 
-fn real_at(t: &[u8], from: usize, name: Name) -> RealAt {
+fn real_at(t: &[u8], from: usize, name: Name) -> RealAt
+    ensures { λ r. ⌜ r ≡ realAt (now (t .entry)) from name ⌝ }
+{
     match text::next_field(t, from) {
         Field::At { start, end, next } => match text::read_real(text::part(t, start, end)) {
             Real::Is(x) => RealAt::Is(x, next),
@@ -39,7 +43,9 @@ fn real_at(t: &[u8], from: usize, name: Name) -> RealAt {
     }
 }
 
-fn two_at(t: &[u8], from: usize, first: Name, second: Name) -> Two {
+fn two_at(t: &[u8], from: usize, first: Name, second: Name) -> Two
+    ensures { λ r. ⌜ r ≡ twoAt (now (t .entry)) from first second ⌝ }
+{
     match real_at(t, from, first) {
         RealAt::Is(a, next) => match real_at(t, next, second) {
             RealAt::Is(b, after) => Two::Are(a, b, after),
@@ -50,7 +56,9 @@ fn two_at(t: &[u8], from: usize, first: Name, second: Name) -> Two {
 }
 
 // Nothing follows the last field.
-fn ended(t: &[u8], from: usize, last: Name) -> Rest {
+fn ended(t: &[u8], from: usize, last: Name) -> Rest
+    ensures { λ r. ⌜ r ≡ restAt (now (t .entry)) from last ⌝ }
+{
     match text::next_field(t, from) {
         Field::At {
             start: _,
@@ -63,7 +71,9 @@ fn ended(t: &[u8], from: usize, last: Name) -> Rest {
 }
 
 // LAT1 LON1 LAT2 LON2, and no more.
-fn four_at(t: &[u8], from: usize) -> Four {
+fn four_at(t: &[u8], from: usize) -> Four
+    ensures { λ r. ⌜ r ≡ fourAt (now (t .entry)) from ⌝ }
+{
     match two_at(t, from, Name::Lat1, Name::Lon1) {
         Two::Are(lat1, lon1, next) => match two_at(t, next, Name::Lat2, Name::Lon2) {
             Two::Are(lat2, lon2, after) => match ended(t, after, Name::Lon2) {
@@ -76,7 +86,9 @@ fn four_at(t: &[u8], from: usize) -> Four {
     }
 }
 
-fn site(lat: f64, lon: f64) -> Site {
+fn site(lat: f64, lon: f64) -> Site
+    ensures { λ r. ⌜ r ≡ siteOf lat lon ⌝ }
+{
     Site {
         lat,
         lon,
@@ -84,7 +96,9 @@ fn site(lat: f64, lon: f64) -> Site {
     }
 }
 
-fn same(a: Site, b: Site) -> Reply {
+fn same(a: Site, b: Site) -> Reply
+    ensures { λ r. ⌜ r ≡ sameOf a b ⌝ }
+{
     if sites::in_degrees(a) {
         if sites::in_degrees(b) {
             return Reply::Same(sites::same_place(a, b));
@@ -94,21 +108,27 @@ fn same(a: Site, b: Site) -> Reply {
     Reply::No(4)
 }
 
-fn place_line(t: &[u8], from: usize) -> Reply {
+fn place_line(t: &[u8], from: usize) -> Reply
+    ensures { λ r. ⌜ r ≡ placeBy (fourAt (now (t .entry)) from) ⌝ }
+{
     match four_at(t, from) {
         Four::Are(lat1, lon1, lat2, lon2) => Reply::Place(sites::place(lat1, lon1, lat2, lon2)),
         Four::Wrong(f) => Reply::Wrong(f),
     }
 }
 
-fn same_line(t: &[u8], from: usize) -> Reply {
+fn same_line(t: &[u8], from: usize) -> Reply
+    ensures { λ r. ⌜ r ≡ sameBy (fourAt (now (t .entry)) from) ⌝ }
+{
     match four_at(t, from) {
         Four::Are(lat1, lon1, lat2, lon2) => same(site(lat1, lon1), site(lat2, lon2)),
         Four::Wrong(f) => Reply::Wrong(f),
     }
 }
 
-fn horizon_line(t: &[u8], from: usize) -> Reply {
+fn horizon_line(t: &[u8], from: usize) -> Reply
+    ensures { λ r. ⌜ r ≡ horizonBy (now (t .entry)) (twoAt (now (t .entry)) from Name.A Name.B) ⌝ }
+{
     match two_at(t, from, Name::A, Name::B) {
         Two::Are(a, b, after) => match ended(t, after, Name::B) {
             Rest::Nothing => Reply::Horizon(floats::horizon::horizon_km(a, b)),
@@ -119,7 +139,9 @@ fn horizon_line(t: &[u8], from: usize) -> Reply {
 }
 
 // The call whose word ends at `end` and whose first field starts at `next`.
-fn call(t: &[u8], end: usize, next: usize) -> Reply {
+fn call(t: &[u8], end: usize, next: usize) -> Reply
+    ensures { λ r. ⌜ r ≡ callOf (now (t .entry)) end next ⌝ }
+{
     let word = text::part(t, 0, end);
     if text::same(word, b"place") {
         return place_line(t, next);
@@ -133,7 +155,9 @@ fn call(t: &[u8], end: usize, next: usize) -> Reply {
     Reply::Wrong(Fault::Unknown { end })
 }
 
-fn ends_in_return(t: &[u8]) -> bool {
+fn ends_in_return(t: &[u8]) -> bool
+    ensures { λ r. ⌜ r ≡ returnAtEnd (now (t .entry)) ⌝ }
+{
     if t.len() == 0 {
         return false;
     }
@@ -142,7 +166,9 @@ fn ends_in_return(t: &[u8]) -> bool {
 }
 
 // The answer to a line's text.
-fn text_line(t: &[u8]) -> Reply {
+fn text_line(t: &[u8]) -> Reply
+    ensures { λ r. ⌜ r ≡ textReply (now (t .entry)) ⌝ }
+{
     if ends_in_return(t) {
         return Reply::Wrong(Fault::StrayReturn);
     }
@@ -158,7 +184,9 @@ fn text_line(t: &[u8]) -> Reply {
 }
 
 // The answer to a line: its comment is no part of its text.
-pub fn line(s: &[u8]) -> Reply {
+pub fn line(s: &[u8]) -> Reply
+    ensures { λ r. ⌜ r ≡ lineReply (now (s .entry)) ⌝ }
+{
     let end = text::text_end(s);
     if end == 0 {
         return Reply::Nothing;

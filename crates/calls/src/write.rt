@@ -5,8 +5,12 @@ use crate::reply::Reply;
 use text::put;
 use text::put_bits;
 use text::put_decimal;
+ghost use mathlib.Core.Path.{_≡_};
+ghost use lib.ListN.{length};
 
-fn put_name(out: &mut [u8], n: usize, name: Name) -> usize {
+fn put_name(out: &mut [u8], n: usize, name: Name) -> usize
+    ensures { λ _. ⌜ length (now (out .exit)) ≡ length (now (out .entry)) ⌝ }
+{
     match name {
         Name::Lat1 => put(out, n, b"LAT1"),
         Name::Lon1 => put(out, n, b"LON1"),
@@ -18,13 +22,17 @@ fn put_name(out: &mut [u8], n: usize, name: Name) -> usize {
 }
 
 // A word that is no call, as far as it can be shown.
-fn put_word(out: &mut [u8], n: usize, word: &[u8]) -> usize {
+fn put_word(out: &mut [u8], n: usize, word: &[u8]) -> usize
+    ensures { λ _. ⌜ length (now (out .exit)) ≡ length (now (out .entry)) ⌝ }
+{
     let m = put(out, n, b"unknown call '");
     let k = put(out, m, text::part(word, 0, text::shown(word)));
     put(out, k, b"'")
 }
 
-fn put_fault(out: &mut [u8], n: usize, fault: Fault, line: &[u8]) -> usize {
+fn put_fault(out: &mut [u8], n: usize, fault: Fault, line: &[u8]) -> usize
+    ensures { λ _. ⌜ length (now (out .exit)) ≡ length (now (out .entry)) ⌝ }
+{
     match fault {
         Fault::Missing(name) => {
             let m = put_name(out, n, name);
@@ -45,7 +53,9 @@ fn put_fault(out: &mut [u8], n: usize, fault: Fault, line: &[u8]) -> usize {
     }
 }
 
-fn put_error(out: &mut [u8], n: usize, fault: Fault, number: u64, line: &[u8]) -> usize {
+fn put_error(out: &mut [u8], n: usize, fault: Fault, number: u64, line: &[u8]) -> usize
+    ensures { λ _. ⌜ length (now (out .exit)) ≡ length (now (out .entry)) ⌝ }
+{
     let a = put(out, n, b"error ");
     let b = put_decimal(out, a, number);
     let c = put(out, b, b": ");
@@ -53,20 +63,26 @@ fn put_error(out: &mut [u8], n: usize, fault: Fault, number: u64, line: &[u8]) -
     put(out, d, b"\n")
 }
 
-fn put_counted(out: &mut [u8], n: usize, word: &[u8], value: u64) -> usize {
+fn put_counted(out: &mut [u8], n: usize, word: &[u8], value: u64) -> usize
+    ensures { λ _. ⌜ length (now (out .exit)) ≡ length (now (out .entry)) ⌝ }
+{
     let a = put(out, n, word);
     let b = put_decimal(out, a, value);
     put(out, b, b"\n")
 }
 
-fn put_float(out: &mut [u8], n: usize, word: &[u8], value: f64) -> usize {
+fn put_float(out: &mut [u8], n: usize, word: &[u8], value: f64) -> usize
+    ensures { λ _. ⌜ length (now (out .exit)) ≡ length (now (out .entry)) ⌝ }
+{
     let a = put(out, n, word);
     let b = put_bits(out, a, text::bits_of(value));
     put(out, b, b"\n")
 }
 
 // The answer to the line of that number, and its line end.
-pub fn put_reply(out: &mut [u8], n: usize, reply: Reply, number: u64, line: &[u8]) -> usize {
+pub fn put_reply(out: &mut [u8], n: usize, reply: Reply, number: u64, line: &[u8]) -> usize
+    ensures { λ _. ⌜ length (now (out .exit)) ≡ length (now (out .entry)) ⌝ }
+{
     match reply {
         Reply::Nothing => n,
         Reply::Place(p) => put_counted(out, n, b"place ", p as u64),

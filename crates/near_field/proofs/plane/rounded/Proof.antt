@@ -1,0 +1,26 @@
+use Rattle.near_field.proofs.Squares.{said-none, said-some}
+use Rattle.near_field.specs.Plane.{said}
+use borrow.Author.Needs.{needs}
+use Rattle.near_field.proofs.plane.rounded.Statement.{statement}
+use Rattle.near_field.proofs.plane.rounded.Tie as tie
+
+-- src/plane.rt:78:9
+steps-of-requires : tie.Need-steps-of-requires
+steps-of-requires c κs = search needs
+
+-- src/plane.rt:79:27
+mul-result : tie.Need-mul-result
+mul-result c = search needs
+
+-- src/plane.rt:74:1
+returns : tie.Need-returns
+unfolding said
+returns c = said-none _ _ (c .before .steps-of .ensures .0) (c .if1 .taken)
+
+-- src/plane.rt:74:1
+returns-2 : tie.Need-returns-2
+unfolding said
+returns-2 c = said-some _ _ (c .before .steps-of .ensures .0) (c .if1 .left)
+
+pub rounded-spec : {M : Type 1} → statement M
+rounded-spec = tie.close (tie.spec steps-of-requires mul-result returns returns-2)

@@ -1,0 +1,17 @@
+-- What the code keeps of a grid, and is not 01's.
+use Prim.Native.Nat.{ℕ, _+_, _*_, _/_, min}
+use mathlib.Core.List.{List}
+use Rattle.cells.specs.Passes.{howMany, table}
+use Rattle.near_field.specs.Marks.{occ}
+
+-- before each cell, how many are occupied: the cells of a part of a row are then counted by one difference
+unfoldable pub countsOf : List ℕ → List ℕ
+countsOf g = table (λ (i : ℕ). howMany (occ g) i) 1601
+
+-- how many columns, or rows, have their centre under z half cells
+abbrev pub under : ℕ → ℕ
+under z = min 40 (z / 2)
+
+-- the first cell of a row whose centre is not
+unfoldable pub cutAt : ℕ → ℕ → ℕ
+cutAt row z = 40 * row + under z

@@ -1,0 +1,52 @@
+-- Sums over numbered things: bounds, and the places heard among the first n words. Assumes nothing.
+use mathlib.Core.Path.{_≡_, refl, sym, ap, _∙_}
+use mathlib.Core.Bool.{Bool, true, false, cond}
+use mathlib.Core.List.{List, [], _∷_, _++_}
+use Prim.Native.Nat.{ℕ, zero, suc, _+_, _*_, _≤_, _<_}
+use native.Mathlib.Omega.{arith}
+use lib.ListN.{getD}
+use Rattle.cells.specs.Cells.{countOf, occupiedWord}
+use Rattle.cells.specs.Passes.{pass, sumOf}
+use Rattle.cells.proofs.Words.{count-small}
+use Rattle.nothing_near.specs.Nothing.{Place, heard}
+use Rattle.nothing_near.specs.Counted.{positionsAmong}
+use Rattle.nothing_near.proofs.Sorted.{sumWhere, sum-append, sum-one}
+
+bounded : (b : Bool) (s k n : ℕ) → k ≤ 255 → s ≤ 255 * n → cond b (s + k) s ≤ 255 * suc n
+bounded true s k n h l = omega arith
+bounded false s k n h l = omega arith
+
+-- n numbers of at most 255 each
+pub sum-le : (p : ℕ → Bool) (f : ℕ → ℕ) → ((i : ℕ) → f i ≤ 255) → (n : ℕ) → sumOf p f n ≤ 255 * n
+unfolding pass
+sum-le p f h zero = omega arith
+sum-le p f h (suc n) = bounded (p n) (sumOf p f n) (f n) n (h n) (sum-le p f h n)
+
+added : (b : Bool) (s k : ℕ) → cond b (s + k) s ≡ s + cond b k 0
+added true s k = refl
+added false s k = omega arith
+
+-- one more, added at the end
+pub sum-next : (p : ℕ → Bool) (f : ℕ → ℕ) (n : ℕ) → sumOf p f (suc n) ≡ sumOf p f n + cond (p n) (f n) 0
+unfolding pass
+sum-next p f n = added (p n) (sumOf p f n) (f n)
+
+pub positions-fit : (words : List ℕ) (n : ℕ) → positionsAmong words n ≤ 255 * n
+unfolding positionsAmong
+positions-fit words n = sum-le (λ (i : ℕ). true) (λ (i : ℕ). countOf (getD words i 0)) (λ i. count-small (getD words i 0)) n
+
+module _ (place : ℕ → Place) (words : List ℕ) (p : Place → Bool) (w : Place → ℕ) (q : ℕ → Bool) (f : ℕ → ℕ)
+    (same : (i : ℕ) → cond (occupiedWord (getD words i 0)) (cond (p (place i)) (w (place i)) 0) 0 ≡ cond (q i) (f i) 0) where
+  grown : (o : Bool) (i : ℕ) (l : List Place)
+      → sumWhere p w (cond o (l ++ (place i ∷ [])) l) ≡ sumWhere p w l + cond o (cond (p (place i)) (w (place i)) 0) 0
+  grown true i l = sum-append p w l (place i ∷ []) ∙ ap (λ (n : ℕ). sumWhere p w l + n) (sum-one p w (place i))
+  grown false i l = omega arith
+
+  -- the sum over the places heard, where each adds what its number adds
+  pub heard-sum : (n : ℕ) → sumWhere p w (heard place words n) ≡ sumOf q f n
+  unfolding heard pass sumWhere
+  heard-sum zero = refl
+  heard-sum (suc n) =
+      grown (occupiedWord (getD words n 0)) n (heard place words n)
+      ∙ ap (λ (m : ℕ). m + cond (occupiedWord (getD words n 0)) (cond (p (place n)) (w (place n)) 0) 0) (heard-sum n)
+      ∙ ap (λ (m : ℕ). sumOf q f n + m) (same n) ∙ sym (sum-next q f n)

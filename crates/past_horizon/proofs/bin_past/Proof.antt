@@ -1,0 +1,59 @@
+-- Not occupied, no altitude, or past_by at the bin's edge (Bins).
+use mathlib.Core.Path.{sym, ap, _∙_}
+use borrow.Author.Needs.{needs}
+use lib.Ieee.{Float}
+use Rattle.floats.specs.Horizon.{pastOf}
+use Rattle.cells.specs.declared.Cell.{Cell}
+use Rattle.cells.specs.Cells.{ceiling}
+use Rattle.past_horizon.proofs.Bins.{unoccupied, at-height, at-no-height}
+use Rattle.past_horizon.proofs.bin_past.Statement.{statement}
+use Rattle.past_horizon.proofs.bin_past.Tie as tie
+
+occupied-requires : tie.Need-occupied-requires
+occupied-requires c κs = search needs
+
+unpack-requires : tie.Need-unpack-requires
+unpack-requires c κs = search needs
+
+ceiling-m-requires : tie.Need-ceiling-m-requires
+ceiling-m-requires c κs = search needs
+
+enum-known-ceiling : tie.Need-enum-known-ceiling
+enum-known-ceiling c = search needs
+
+edge-km-requires : tie.Need-edge-km-requires
+edge-km-requires c κs = search needs
+
+allowed-km-requires : tie.Need-allowed-km-requires
+allowed-km-requires c κs = search needs
+
+past-by-requires : tie.Need-past-by-requires
+past-by-requires c κs = search needs
+
+enum-told : tie.Need-enum-told
+enum-told c = search needs
+
+returns : tie.Need-returns
+returns c = λ a h. let s = c .before .before .before .before .before .before .before .before .before .before .args in let b = c .before .before .before .before .ceiling .given .0 .0 in c .past-by .ensures a b (c .before .allowed-km .ensures a h) ∙ ap (λ (e : Float). pastOf e a b) (c .before .before .edge-km .ensures) ∙ at-height (s .w) (s .bin) a b (sym (c .before .before .before .before .before .before .before .before .before .occupied .ensures) ∙ c .before .before .before .before .before .before .before .before .if1 .taken) (sym (ap (λ (k : Cell). ceiling (k .low)) (c .before .before .before .before .before .before .before .unpack .ensures)) ∙ sym (c .before .before .before .before .before .before .ceiling-m .ensures) ∙ c .before .before .before .before .ceiling .given .1)
+
+returns-2 : tie.Need-returns-2
+returns-2 c = λ a h. let s = c .before .before .before .before .before .before .args in at-no-height (s .w) (s .bin) a (sym (c .before .before .before .before .before .occupied .ensures) ∙ c .before .before .before .before .if1 .taken) (sym (ap (λ (k : Cell). ceiling (k .low)) (c .before .before .before .unpack .ensures)) ∙ sym (c .before .before .ceiling-m .ensures) ∙ c .enum-told .given .1)
+
+returns-3 : tie.Need-returns-3
+returns-3 c = λ a h. let s = c .before .before .args in unoccupied (s .w) (s .bin) a (sym (c .before .occupied .ensures) ∙ c .if1 .left)
+
+pub bin-past-spec : {M : Type 1} → statement M
+bin-past-spec =
+    tie.close
+    (tie.spec
+    occupied-requires
+    unpack-requires
+    ceiling-m-requires
+    enum-known-ceiling
+    edge-km-requires
+    allowed-km-requires
+    past-by-requires
+    enum-told
+    returns
+    returns-2
+    returns-3)

@@ -1,0 +1,145 @@
+-- The loop holds Seen of Bins for whatever height the root was taken of; at the end that is the site's antenna.
+-- Each return is one of the four answers.
+use mathlib.Core.Path.{_≡_, refl, sym, ap, _∙_}
+use Prim.Native.Nat.{_-_}
+use native.Mathlib.Omega.{arith}
+use borrow.Author.Needs.{needs}
+use lib.ListN.{getD}
+use lib.Ieee.{Float}
+use Rattle.sites.specs.Sites.{antenna}
+use Rattle.cells.proofs.Words.{count-small}
+use Rattle.floats.specs.Horizon.{atLeastZero}
+use Rattle.floats.specs.Root.{root}
+use Rattle.past_horizon.specs.Horizon.{pastHorizon}
+use Rattle.past_horizon.proofs.Bins.{Sizes, Seen, none, one-past, not-past, All, all, too-few, too-few-aircraft, too-few-positions, enough}
+use Rattle.past_horizon.proofs.past_horizon.Statement.{statement}
+use Rattle.past_horizon.proofs.past_horizon.Tie as tie
+
+abbrev Inv-loop : tie.InvT-loop
+Inv-loop far antenna-root bins xs₀ n₀ positions₀ aircraft₀ i₀ xs n positions aircraft i = Sizes xs n positions i × ((a : Float) → antenna-root ≡ root (atLeastZero a) → Seen bins a xs n positions aircraft i)
+
+abbrev μ-loop : tie.MeasureT-loop
+μ-loop far antenna-root bins xs₀ n₀ positions₀ aircraft₀ i₀ xs n positions aircraft i = 72 - i
+
+ended : (c : tie.After-loop Inv-loop μ-loop) → let l = c .before .loop in let g = c .before .before .before .before .before .before .args in All (g .far .cells) (antenna (g .site)) (l .xs) (l .n) (l .positions) (l .aircraft)
+ended c =
+    let l = c .before .loop in
+    let q = c .before .before .before in
+    let g = q .before .before .before .args in
+    let taken : q .sqrt .result ≡ root (atLeastZero (antenna (g .site))) = q .sqrt .ensures ∙ ap root (q .before .at-least-zero .ensures) ∙ ap (λ (x : Float). root (atLeastZero x)) (q .before .before .antenna-m .ensures) in
+    all (g .far .cells) (antenna (g .site)) (l .xs) (l .n) (l .positions) (l .aircraft) (l .i) (l .inv .1 (antenna (g .site)) taken) (omega (arith, l .inv .0 .seen, c .loop-test .left))
+
+antenna-m-requires : tie.Need-antenna-m-requires Inv-loop μ-loop
+antenna-m-requires c κs = search needs
+
+at-least-zero-requires : tie.Need-at-least-zero-requires Inv-loop μ-loop
+at-least-zero-requires c κs = search needs
+
+sqrt-requires : tie.Need-sqrt-requires Inv-loop μ-loop
+sqrt-requires c κs = search needs
+
+loop-holds : tie.Need-loop-holds Inv-loop μ-loop
+loop-holds c = (record { seen = omega arith; room = refl; few = omega arith; small = omega arith }, λ a h. none _ a _)
+
+mul-w : tie.Need-mul-w Inv-loop μ-loop
+mul-w c = search needs
+
+array-read-w : tie.Need-array-read-w Inv-loop μ-loop
+array-read-w c = search needs
+
+bin-past-requires : tie.Need-bin-past-requires Inv-loop μ-loop
+bin-past-requires c κs = search needs
+
+add-i : tie.Need-add-i Inv-loop μ-loop
+add-i c = search needs
+
+enum-known-p : tie.Need-enum-known-p Inv-loop μ-loop
+enum-known-p c = search needs
+
+put-requires : tie.Need-put-requires Inv-loop μ-loop
+put-requires c κs = search needs
+
+add-n : tie.Need-add-n Inv-loop μ-loop
+add-n c = search needs
+
+count-of-requires : tie.Need-count-of-requires Inv-loop μ-loop
+count-of-requires c κs = search needs
+
+add-positions : tie.Need-add-positions Inv-loop μ-loop
+add-positions c = let l = c .before .before .before .before .before .before .before .loop in record { fits = omega (arith, c .before .before .before .before .before .before .loop-test .taken, l .inv .0 .small, c .count-of .ensures, count-small (getD (c .before .before .before .before .before .before .before .before .before .before .before .before .args .far .cells) (l .i) 0)) }
+
+bits-of-requires : tie.Need-bits-of-requires Inv-loop μ-loop
+bits-of-requires c κs = search needs
+
+loop-less : tie.Need-loop-less Inv-loop μ-loop
+loop-less c = search needs
+
+loop-again : tie.Need-loop-again Inv-loop μ-loop
+loop-again c = let l = c .before .before .before .before .before .before .before .before .loop in let far = c .before .before .before .before .before .before .before .before .before .before .before .before .before .args .far in (record { seen = omega (arith, c .before .before .before .before .before .before .before .loop-test .taken); room = search needs; few = omega (arith, l .inv .0 .few); small = omega (arith, l .inv .0 .small, c .before .count-of .ensures, count-small (getD (far .cells) (l .i) 0)) }, λ a h. one-past (far .cells) a (l .xs) (l .n) (l .positions) (l .aircraft) (l .i) (l .inv .1 a h) (c .before .before .put .result) (c .before .before .before .before .p .given .0 .0) _ _ (sym (c .before .before .before .before .before .before .bin-past .ensures a h) ∙ c .before .before .before .before .p .given .1) (c .before .before .put .ensures) (c .before .count-of .ensures) (c .bits-of .ensures))
+
+enum-told : tie.Need-enum-told Inv-loop μ-loop
+enum-told c = search needs
+
+loop-less-2 : tie.Need-loop-less-2 Inv-loop μ-loop
+loop-less-2 c = search needs
+
+loop-again-2 : tie.Need-loop-again-2 Inv-loop μ-loop
+loop-again-2 c = let l = c .before .before .before .before .loop in (record { seen = omega (arith, c .before .before .before .loop-test .taken); room = l .inv .0 .room; few = omega (arith, l .inv .0 .few); small = omega (arith, l .inv .0 .small) }, λ a h. not-past _ a (l .xs) (l .n) (l .positions) (l .aircraft) (l .i) (l .inv .1 a h) (sym (c .before .before .bin-past .ensures a h) ∙ c .enum-told .given .1))
+
+returns : tie.Need-returns Inv-loop μ-loop
+unfolding pastHorizon
+returns c = let l = c .before .before .loop in let g = c .before .before .before .before .before .before .before .args in too-few (g .far) (antenna (g .site)) (l .xs) (l .n) (l .positions) (l .aircraft) (ended (c .before)) (c .if1 .taken)
+
+returns-2 : tie.Need-returns-2 Inv-loop μ-loop
+unfolding pastHorizon
+returns-2 c = let l = c .before .before .before .loop in let g = c .before .before .before .before .before .before .before .before .args in too-few-aircraft (g .far) (antenna (g .site)) (l .xs) (l .n) (l .positions) (l .aircraft) (ended (c .before .before)) (c .if2 .taken)
+
+mul-if3 : tie.Need-mul-if3 Inv-loop μ-loop
+mul-if3 c = search needs
+
+returns-3 : tie.Need-returns-3 Inv-loop μ-loop
+unfolding pastHorizon
+returns-3 c = let l = c .before .before .before .before .before .loop in let g = c .before .before .before .before .before .before .before .before .before .before .args in too-few-positions (g .far) (antenna (g .site)) (l .xs) (l .n) (l .positions) (l .aircraft) (ended (c .before .before .before .before)) (c .if3 .taken)
+
+mul-t26 : tie.Need-mul-t26 Inv-loop μ-loop
+mul-t26 c = search needs
+
+array-read-t13 : tie.Need-array-read-t13 Inv-loop μ-loop
+array-read-t13 c = search needs
+
+returns-4 : tie.Need-returns-4 Inv-loop μ-loop
+unfolding pastHorizon
+returns-4 c = let l = c .before .before .before .before .before .loop in let g = c .before .before .before .before .before .before .before .before .before .before .args in enough (g .far) (antenna (g .site)) (l .xs) (l .n) (l .positions) (l .aircraft) (ended (c .before .before .before .before)) (c .before .before .before .if1 .left) (c .before .before .if2 .left) (c .if3 .left)
+
+pub past-horizon-spec : {M : Type 1} → statement M
+past-horizon-spec =
+    tie.close
+    (tie.spec
+    Inv-loop
+    μ-loop
+    antenna-m-requires
+    at-least-zero-requires
+    sqrt-requires
+    loop-holds
+    mul-w
+    array-read-w
+    bin-past-requires
+    add-i
+    enum-known-p
+    put-requires
+    add-n
+    count-of-requires
+    add-positions
+    bits-of-requires
+    loop-less
+    loop-again
+    enum-told
+    loop-less-2
+    loop-again-2
+    returns
+    returns-2
+    mul-if3
+    returns-3
+    mul-t26
+    array-read-t13
+    returns-4)
