@@ -7,7 +7,6 @@ use native.Mathlib.Omega.{arith}
 use borrow.Author.Tests.{lt-ltb, le-ltb, le-leb, lt-leb, ne-eqb}
 use lib.Count.{ones}
 use lib.Dec.{leb, ltb, eqb, leb·suc-suc}
-use Rattle.cells.specs.Cells.{occupiedWord}
 use Rattle.cells.specs.Passes.{howMany}
 use Rattle.cells.proofs.Passes.{pass-none, pass-next}
 use Rattle.near_field.specs.Sorted.{sorted, nth}
@@ -130,6 +129,6 @@ pub member-near :
 unfolding member
 member-near g best i d n l e h f =
     rw (le-leb (dist (eastOf i) (northOf i) (eastOf best) (northOf best)) 100 (rw e at h)) (ap (ltb 0) f ∙ by (found g i) refl ∙ sym (and-true (found g i))) where
-  by : (u : Bool) → found g i ≡ u → ltb 0 (cond u (cellsAround g i) 0) ≡ u
-  by true q = lt-ltb 0 (cellsAround g i) (own-cell g i l q)
-  by false q = refl
+      by : (u : Bool) → found g i ≡ u → ltb 0 (cond u (cellsAround g i) 0) ≡ u
+      by true q = lt-ltb 0 (cellsAround g i) (own-cell g i l q)
+      by false q = refl

@@ -5,7 +5,7 @@ use mathlib.Core.List.{List}
 use Prim.Native.Nat.{ℕ, zero, suc, _*_, _≤_, _<_}
 use native.Mathlib.Omega.{arith}
 use borrow.Author.Tests.{lt-ltb, le-ltb, le-leb, lt-leb, eq-eqb, ne-eqb}
-use lib.Dec.{ltb, eqb}
+use lib.Dec.{leb, ltb, eqb}
 use Rattle.cells.specs.Passes.{pass}
 use Rattle.near_field.specs.Plane.{square, said}
 use Rattle.near_field.specs.Marks.{aroundOf, sectorsIn}
@@ -20,25 +20,31 @@ not-four : (s : ℕ) → s ≤ 3 → s ≡ 4 → ⊥
 not-four s h e = omega arith
 
 module _ (scale : ℕ) (g : List ℕ) (s : ℕ) (e : s ≡ sectorsIn (aroundOf g 40 40 .marks)) where
+  under-5 : s < 5 → leb 5 (sectorsIn (aroundOf g 40 40 .marks)) ≡ false
+  under-5 h = lt-leb 5 (sectorsIn (aroundOf g 40 40 .marks)) (rw e at h)
+
+  under-4 : s ≤ 3 → eqb (sectorsIn (aroundOf g 40 40 .marks)) 4 ≡ false
+  under-4 h = ne-eqb (sectorsIn (aroundOf g 40 40 .marks)) 4 (rw e at (not-four s h))
+
   pub nf-fits : (out : Bool) → 5 ≤ s → Fits ≡ nearFieldBy scale g out
   unfolding nearFieldBy
   nf-fits out h = rw (le-leb 5 (sectorsIn (aroundOf g 40 40 .marks)) (rw e at h))
 
   pub nf-four : (out : Bool) → s < 5 → 3 < s → Unjudged ≡ nearFieldBy scale g out
   unfolding nearFieldBy
-  nf-four out h h2 = rw (lt-leb 5 (sectorsIn (aroundOf g 40 40 .marks)) (rw e at h), eq-eqb (sectorsIn (aroundOf g 40 40 .marks)) 4 (rw e at (four s h h2)))
+  nf-four out h h2 = rw (under-5 h, eq-eqb (sectorsIn (aroundOf g 40 40 .marks)) 4 (rw e at (four s h h2)))
 
   pub nf-inside : (out : Bool) → s < 5 → s ≤ 3 → out ≡ false → Unjudged ≡ nearFieldBy scale g out
   unfolding nearFieldBy
-  nf-inside out h h2 o = rw (o, lt-leb 5 (sectorsIn (aroundOf g 40 40 .marks)) (rw e at h), ne-eqb (sectorsIn (aroundOf g 40 40 .marks)) 4 (rw e at (not-four s h2)))
+  nf-inside out h h2 o = rw (o, under-5 h, under-4 h2)
 
   pub nf-hole : (out : Bool) → s < 5 → s ≤ 3 → out ≡ true → noHole g ≡ true → Unjudged ≡ nearFieldBy scale g out
   unfolding nearFieldBy
-  nf-hole out h h2 o n = rw (o, lt-leb 5 (sectorsIn (aroundOf g 40 40 .marks)) (rw e at h), ne-eqb (sectorsIn (aroundOf g 40 40 .marks)) 4 (rw e at (not-four s h2)), n)
+  nf-hole out h h2 o n = rw (o, under-5 h, under-4 h2, n)
 
   pub nf-rest : (out : Bool) → s < 5 → s ≤ 3 → out ≡ true → noHole g ≡ false → bestOrNone scale g (bestOf g 1600) ≡ nearFieldBy scale g out
   unfolding nearFieldBy
-  nf-rest out h h2 o n = rw (o, lt-leb 5 (sectorsIn (aroundOf g 40 40 .marks)) (rw e at h), ne-eqb (sectorsIn (aroundOf g 40 40 .marks)) 4 (rw e at (not-four s h2)), n)
+  nf-rest out h h2 o n = rw (o, under-5 h, under-4 h2, n)
 
 pub no-best : (scale : ℕ) (g : List ℕ) (b : ℕ) → b ≡ 1600 → Unjudged ≡ bestOrNone scale g b
 unfolding bestOrNone
@@ -55,7 +61,9 @@ chosen-le false i b h l = l
 pub best-le : (g : List ℕ) (n : ℕ) → n ≤ 1600 → bestOf g n ≤ 1600
 unfolding pass better
 best-le g zero h = omega arith
-best-le g (suc n) h = chosen-le (found g n && (eqb (bestOf g n) 1600 || ltb (cellsAround g (bestOf g n)) (cellsAround g n))) n (bestOf g n) (omega arith) (best-le g n (omega arith))
+best-le g (suc n) h =
+    chosen-le (found g n && (eqb (bestOf g n) 1600 || ltb (cellsAround g (bestOf g n)) (cellsAround g n))) n (bestOf g n) (omega arith)
+    (best-le g n (omega arith))
 
 not-it : (b : ℕ) → b ≤ 1600 → (b ≡ 1600 → ⊥) → b < 1600
 not-it b l d = omega arith
@@ -67,7 +75,9 @@ pub mean-under : (scale : ℕ) (g : List ℕ) (best m n : ℕ) → m ≡ meanSqu
 unfolding foundOf square
 mean-under scale g best m n e f h = rw (lt-ltb (meanSquare g best) (10 * members g best * (10 * members g best)) (rw (e, f) at h))
 
-pub mean-over : (scale : ℕ) (g : List ℕ) (best m n off : ℕ) → m ≡ meanSquare g best → n ≡ members g best → 10 * n * (10 * n) ≤ m → off ≡ said (scale * m) n → Wrong off NearField ≡ foundOf scale g best
+pub mean-over :
+    (scale : ℕ) (g : List ℕ) (best m n off : ℕ) → m ≡ meanSquare g best → n ≡ members g best → 10 * n * (10 * n) ≤ m → off ≡ said (scale * m) n
+    → Wrong off NearField ≡ foundOf scale g best
 unfolding foundOf square
 mean-over scale g best m n off e f h o =
     rw (le-ltb (meanSquare g best) (10 * members g best * (10 * members g best)) (rw (e, f) at h)) (cc)

@@ -1,8 +1,8 @@
 -- The eight marks as a table over the sectors: one sector marked more changes it at one place, and a span of cells that lie in one sector marks
 -- it where the counts before the span's ends differ. Assumes nothing.
-use mathlib.Core.Path.{_≡_, refl, sym, ap, subst, _∙_}
+use mathlib.Core.Path.{_≡_, refl, sym, ap, _∙_}
 use mathlib.Core.Bool.{Bool, true, false, _&&_, _||_, cond}
-use mathlib.Core.List.{List, _++_, _∷_, []}
+use mathlib.Core.List.{List}
 use Prim.Native.Nat.{ℕ, zero, suc, _+_, _*_, _/_, _≤_, _<_}
 use native.Mathlib.Numerals.{add-one}
 use native.Mathlib.Omega.{arith}
@@ -16,7 +16,7 @@ use Rattle.cells.specs.Passes.{pass, howMany, table}
 use Rattle.cells.proofs.Passes.{table-length, table-at}
 use Rattle.near_field.specs.Plane.{eastOf, northOf, dist, fromSite, within25, over3, sectorFrom}
 use Rattle.near_field.specs.Marks.{occ, some, near, inSector, marksOf, cellIn, binIn}
-use Rattle.near_field.specs.Counts.{countsOf}
+use Rattle.near_field.specs.Counts.{countsOf, spanOf}
 use Rattle.near_field.proofs.Counts.{count-mono, count-skip, count-span, some-next, some-more, heard-at}
 use Rattle.near_field.proofs.Sectors.{sector-below}
 
@@ -51,17 +51,19 @@ pub mark-table :
     → cond t (set (table f n) s true) (table f n) ≡ table f' n
 mark-table f f' n s false l h = table-same f f' n (λ k. sym (h k ∙ ap (λ (u : Bool). cond (eqb s k) u (f k)) (or-false (f k)) ∙ same (eqb s k) (f k)))
 mark-table f f' n s true l h =
-    ext-getD false (set (table f n) s true) (table f' n)
-    (length-set (table f n) s true ∙ table-length f false n ∙ sym (table-length f' false n))
-    (λ i m. at i (let e = length-set (table f n) s true in let e2 = table-length f false n in omega arith) (eqb s i) refl ∙ sym (table-at f' false n i (let e = length-set (table f n) s true in let e2 = table-length f false n in omega arith))) where
-  at : (i : ℕ) → i < n → (b : Bool) → eqb s i ≡ b → getD (set (table f n) s true) i false ≡ f' i
-  at i m true e =
-      ap (λ (k : ℕ). getD (set (table f n) s true) k false) (sym (eqb-true s i e))
-      ∙ getD-set-same (table f n) s true false (let e2 = table-length f false n in omega arith)
-      ∙ sym (h i ∙ ap (λ (b : Bool). cond b (f i || true) (f i)) e ∙ or-true (f i))
-  at i m false e =
-      getD-set-other (table f n) s i true false (λ q. eqb-false s i e (sym q)) ∙ table-at f false n i m
-      ∙ sym (h i ∙ ap (λ (b : Bool). cond b (f i || true) (f i)) e)
+    ext-getD false (set (table f n) s true) (table f' n) (len ∙ sym (table-length f' false n))
+    (λ i m. at i (omega (arith, len)) (eqb s i) refl ∙ sym (table-at f' false n i (omega (arith, len)))) where
+      len : length (set (table f n) s true) ≡ n
+      len = length-set (table f n) s true ∙ table-length f false n
+
+      at : (i : ℕ) → i < n → (b : Bool) → eqb s i ≡ b → getD (set (table f n) s true) i false ≡ f' i
+      at i m true e =
+          ap (λ (k : ℕ). getD (set (table f n) s true) k false) (sym (eqb-true s i e))
+          ∙ getD-set-same (table f n) s true false (let e2 = table-length f false n in omega arith)
+          ∙ sym (h i ∙ ap (λ (b : Bool). cond b (f i || true) (f i)) e ∙ or-true (f i))
+      at i m false e =
+          getD-set-other (table f n) s i true false (λ q. eqb-false s i e (sym q)) ∙ table-at f false n i m
+          ∙ sym (h i ∙ ap (λ (b : Bool). cond b (f i || true) (f i)) e)
 
 -- ---- what a cell marks, seen from (x, y)
 -- a cell at (cx, cy) is within 25 km, over 3 km away and in sector s
@@ -103,12 +105,13 @@ module _ (g : List ℕ) (x y : ℕ) where
 
   -- a span of a row whose cells lie in sector s, from the counts before its ends
   pub span-marks :
-      (hs : List ℕ) → hs ≡ countsOf g → (a b s : ℕ) (ms r : List Bool) → a ≤ b → b ≤ 1600 → s < 8 → ((i : ℕ) → a ≤ i → i < b → Lies x y s (eastOf i) (northOf i))
-      → ms ≡ marksOf g x y a → r ≡ cond (ltb (getD hs a 0) (getD hs b 0)) (set ms s true) ms → r ≡ marksOf g x y b
-  unfolding marksOf
-  span-marks hs e a b s ms r l m n h em er =
-      er ∙ rw (heard-at g hs a e (omega arith), heard-at g hs b e m, em)
-      (mark-table (λ (k : ℕ). some (marks k) a) (λ (k : ℕ). some (marks k) b) 8 s (ltb (howMany (occ g) a) (howMany (occ g) b)) n (λ k. span-each a b s k l h))
+      (hs : List ℕ) → hs ≡ countsOf g → (a b s : ℕ) (ms : List Bool) → a ≤ b → b ≤ 1600 → s < 8 → ((i : ℕ) → a ≤ i → i < b → Lies x y s (eastOf i) (northOf i))
+      → ms ≡ marksOf g x y a → spanOf hs ms a b s ≡ marksOf g x y b
+  unfolding marksOf spanOf
+  span-marks hs e a b s ms l m n h em =
+      rw (heard-at g hs a e (omega arith), heard-at g hs b e m, em)
+      (mark-table (λ (k : ℕ). some (marks k) a) (λ (k : ℕ). some (marks k) b) 8 s (ltb (howMany (occ g) a) (howMany (occ g) b)) n
+      (λ k. span-each a b s k l h))
 
 -- no cell, no mark
 pub marks-none : (g : List ℕ) (x y : ℕ) → replicate 8 false ≡ marksOf g x y 0
@@ -137,7 +140,7 @@ cells-step g i w ms r ew em er =
     (mark-table (λ (k : ℕ). some (cellIn g k) i) (λ (k : ℕ). some (cellIn g k) (i + 1)) 8 (sectorFrom (eastOf i) (northOf i) 40 40)
     (occ g i && over3 (fromSite i)) (sector-below (pos (eastOf i) -ℤ pos 40) (pos (northOf i) -ℤ pos 40))
     (λ k. ap (some (cellIn g k)) (add-one i) ∙ some-next (cellIn g k) i
-          ∙ cell-more (some (cellIn g k) i) (occ g i) (over3 (fromSite i)) (eqb (sectorFrom (eastOf i) (northOf i) 40 40) k)))
+    ∙ cell-more (some (cellIn g k) i) (occ g i) (over3 (fromSite i)) (eqb (sectorFrom (eastOf i) (northOf i) 40 40) k)))
 
 pub bins-step :
     (f : ℕ → Bool) (bins : List ℕ) (j w : ℕ) (ms r : List Bool) → j < 72 → w ≡ getD bins j 0
@@ -148,7 +151,7 @@ bins-step f bins j w ms r l ew em er =
     er ∙ rw (ew, em)
     (mark-table (λ (k : ℕ). f k || some (binIn bins k) j) (λ (k : ℕ). f k || some (binIn bins k) (j + 1)) 8 (j / 9) (occ bins j) (omega arith)
     (λ k. ap (λ (t : Bool). f k || t) (ap (some (binIn bins k)) (add-one j) ∙ some-next (binIn bins k) j)
-          ∙ bin-more (f k) (some (binIn bins k) j) (occ bins j) (eqb (j / 9) k)))
+    ∙ bin-more (f k) (some (binIn bins k) j) (occ bins j) (eqb (j / 9) k)))
 
 pub cells-none : (g : List ℕ) → replicate 8 false ≡ table (λ (k : ℕ). some (cellIn g k) 0) 8
 unfolding table pass

@@ -1,16 +1,14 @@
 -- The spans of a row around a place. A row m half cells north or south of the place reaches h half cells east and west, and its cells lie in at most
 -- four sectors, one after the other. Assumes nothing.
 use mathlib.Core.Path.{_≡_, refl, sym, ap, _∙_}
-use mathlib.Core.Bool.{Bool, true, false, _&&_, cond}
+use mathlib.Core.Bool.{Bool, false}
 use mathlib.Core.List.{List}
-use Prim.Native.Nat.{ℕ, zero, suc, _+_, _-_, _*_, _/_, _%_, _≤_, _<_, min}
+use Prim.Native.Nat.{ℕ, zero, suc, _+_, _-_, _*_, _%_, _≤_, _<_, min}
 use native.Mathlib.Omega.{arith}
-use borrow.Author.Tests.{lt-ltb, le-ltb, le-leb, lt-leb}
-use lib.Dec.{leb, ltb}
-use lib.ListN.{getD, set}
+use borrow.Author.Tests.{lt-ltb, le-leb, lt-leb}
 use Rattle.near_field.specs.Plane.{eastOf, northOf, apart, square, dist, over3, sectorFrom}
 use Rattle.near_field.specs.Marks.{occ, near, marksOf}
-use Rattle.near_field.specs.Counts.{countsOf, under, cutAt}
+use Rattle.near_field.specs.Counts.{countsOf, cutAt, spanOf}
 use Rattle.near_field.proofs.Squares.{square-le, far-square, two-apart}
 use Rattle.near_field.proofs.Sectors.{in-0, in-1, in-2, in-3, in-4, in-5, in-6, in-7}
 use Rattle.near_field.proofs.Marked.{Lies, and-true, and-false, near-none, low-none, marks-skip, span-marks}
@@ -32,6 +30,36 @@ pub cut-mono : (row a b : ℕ) → a ≤ b → cutAt row a ≤ cutAt row b
 unfolding cutAt
 cut-mono row a b l = omega arith
 
+-- the spans of a row m half cells north of x, of one m south, and of its own: h is the reach
+abbrev pub northSpans : List ℕ → List Bool → ℕ → ℕ → ℕ → ℕ → List Bool
+northSpans hs ms row x m h =
+    let west = cutAt row (x - h) in
+    let north-west = cutAt row (x - min m h) in
+    let north = cutAt row x in
+    let north-east = cutAt row (x + min m (h + 1)) in
+    let east = cutAt row (x + h + 1) in
+    spanOf hs (spanOf hs (spanOf hs (spanOf hs ms west north-west 6) north-west north 7) north north-east 0) north-east east 1
+
+abbrev pub southSpans : List ℕ → List Bool → ℕ → ℕ → ℕ → ℕ → List Bool
+southSpans hs ms row x m h =
+    let west = cutAt row (x - h) in
+    let south-west = cutAt row (x + 1 - min m (h + 1)) in
+    let south = cutAt row (x + 1) in
+    let south-east = cutAt row (x + min m h + 1) in
+    let east = cutAt row (x + h + 1) in
+    spanOf hs (spanOf hs (spanOf hs (spanOf hs ms west south-west 5) south-west south 4) south south-east 3) south-east east 2
+
+abbrev pub levelSpans : List ℕ → List Bool → ℕ → ℕ → ℕ → List Bool
+levelSpans hs ms row x h = spanOf hs (spanOf hs ms (cutAt row (x - h)) (cutAt row x) 6) (cutAt row (x + 1)) (cutAt row (x + h + 1)) 2
+
+-- four spans one after the other, from p to p, where p are known to be q
+pub four-spans :
+    (hs : List ℕ) (ms a b c d : List Bool) (p0 p1 p2 p3 p4 q0 q1 q2 q3 q4 s t u v : ℕ)
+    → a ≡ spanOf hs ms p0 p1 s → b ≡ spanOf hs a p1 p2 t → c ≡ spanOf hs b p2 p3 u → d ≡ spanOf hs c p3 p4 v
+    → p0 ≡ q0 → p1 ≡ q1 → p2 ≡ q2 → p3 ≡ q3 → p4 ≡ q4
+    → d ≡ spanOf hs (spanOf hs (spanOf hs (spanOf hs ms q0 q1 s) q1 q2 t) q2 q3 u) q3 q4 v
+four-spans hs ms a b c d p0 p1 p2 p3 p4 q0 q1 q2 q3 q4 s t u v ea eb ec ed e0 e1 e2 e3 e4 = cc
+
 -- the cells of a part of a row, by their centres
 part : (row a b i : ℕ) → cutAt row a ≤ i → i < cutAt row b → (northOf i ≡ 2 * row + 1) × (a ≤ eastOf i) × (eastOf i < b)
 unfolding cutAt
@@ -40,9 +68,11 @@ part row a b i p q = (omega arith, omega arith, omega arith)
 lies :
     (x y s cx cy m h : ℕ) → Reach m h → apart cy y ≡ m → apart cx x ≤ h → 2 ≤ apart cx x + m → sectorFrom cx cy x y ≡ s
     → Lies x y s cx cy
-lies x y s cx cy m h r em l t q =
-    (rw em (le-leb (square (apart cx x) + square m) 100 (omega (arith, square-le l, r .0))),
-    rw em (lt-ltb 144 (100 * (square (apart cx x) + square m)) (two-apart (apart cx x) m t)), q)
+lies x y s cx cy m h r em l t q = (
+  rw em (le-leb (square (apart cx x) + square m) 100 (omega (arith, square-le l, r .0))),
+  rw em (lt-ltb 144 (100 * (square (apart cx x) + square m)) (two-apart (apart cx x) m t)),
+  q,
+)
 
 -- a place's column and row are both odd or both even, so no cell is one half cell away
 two-more : (d m : ℕ) → 0 < m → 2 ≤ suc d + m
@@ -100,13 +130,6 @@ own : (x y i : ℕ) → apart (eastOf i) x ≡ 0 → apart (northOf i) y ≡ 0 �
 unfolding square
 own x y i p q = rw (p, q)
 
--- what a span marks, by where its ends are
-pub ends :
-    (hs : List ℕ) (ms r : List Bool) (f t f' t' s : ℕ) → f ≡ f' → t ≡ t' → r ≡ cond (ltb (getD hs f 0) (getD hs t 0)) (set ms s true) ms
-    → r ≡ cond (ltb (getD hs f' 0) (getD hs t' 0)) (set ms s true) ms
-ends hs ms r f t f' t' s p q e =
-    e ∙ ap (λ (z : ℕ). cond (ltb (getD hs z 0) (getD hs t 0)) (set ms s true) ms) p ∙ ap (λ (z : ℕ). cond (ltb (getD hs f' 0) (getD hs z 0)) (set ms s true) ms) q
-
 -- ---- near, or not
 pub far-off : (g : List ℕ) (x y i : ℕ) → 100 < dist (eastOf i) (northOf i) x y → near g x y i ≡ false
 unfolding near
@@ -142,60 +165,53 @@ module _ (g : List ℕ) (x y row m h : ℕ) (hx : x < 80) (hr : row < 40) (em : 
       rw (n, le-leb (square (apart (eastOf i) x) + square m) 100 (omega (arith, square-le (near-by (eastOf i) (t .1) (t .2)), r .0))) (and-true (occ g i))
 
   start : (ms : List Bool) → ms ≡ marksOf g x y (40 * row) → ms ≡ marksOf g x y (cutAt row (x - h))
-  unfolding cutAt
-  start ms e = e ∙ marks-skip g x y (40 * row) (cutAt row (x - h)) (omega arith) (λ i p q. near-none g x y i (west-off i p q))
+  start ms e = e ∙ marks-skip g x y (40 * row) (cutAt row (x - h)) (cut-start row (x - h)) (λ i p q. near-none g x y i (west-off i p q))
 
   end : (ms : List Bool) → ms ≡ marksOf g x y (cutAt row (x + h + 1)) → ms ≡ marksOf g x y (40 * (row + 1))
-  unfolding cutAt
-  end ms e = e ∙ marks-skip g x y (cutAt row (x + h + 1)) (40 * (row + 1)) (omega arith) (λ i p q. near-none g x y i (east-off i p q))
+  end ms e = e ∙ marks-skip g x y (cutAt row (x + h + 1)) (40 * (row + 1)) (cut-end row (x + h + 1)) (λ i p q. near-none g x y i (east-off i p q))
 
   module _ (hs : List ℕ) (eh : hs ≡ countsOf g) (even : x % 2 ≡ y % 2) where
-    abbrev Spans : List Bool → List Bool → ℕ → ℕ → ℕ → Type 0
-    Spans ms r a b s = r ≡ cond (ltb (getD hs (cutAt row a) 0) (getD hs (cutAt row b) 0)) (set ms s true) ms
-
     -- one span
     spanned :
-        (a b s : ℕ) (ms r : List Bool) → s < 8 → a ≤ b → ((i : ℕ) → northOf i ≡ 2 * row + 1 → a ≤ eastOf i → eastOf i < b → Lies x y s (eastOf i) (northOf i))
-        → ms ≡ marksOf g x y (cutAt row a) → Spans ms r a b s → r ≡ marksOf g x y (cutAt row b)
-    unfolding cutAt
-    spanned a b s ms r n l f e q =
-        span-marks g x y hs eh (cutAt row a) (cutAt row b) s ms r (omega arith) (omega arith) n
-        (λ i p q. let t = part row a b i p q in f i (t .0) (t .1) (t .2)) e q
+        (a b s : ℕ) (ms : List Bool) → s < 8 → a ≤ b → ((i : ℕ) → northOf i ≡ 2 * row + 1 → a ≤ eastOf i → eastOf i < b → Lies x y s (eastOf i) (northOf i))
+        → ms ≡ marksOf g x y (cutAt row a) → spanOf hs ms (cutAt row a) (cutAt row b) s ≡ marksOf g x y (cutAt row b)
+    spanned a b s ms n l f e =
+        span-marks g x y hs eh (cutAt row a) (cutAt row b) s ms (cut-mono row a b l) (omega (arith, cut-end row b)) n
+        (λ i p q. let t = part row a b i p q in f i (t .0) (t .1) (t .2)) e
 
-    pub north-marks :
-        (ms a b c d : List Bool) → y < 2 * row + 1 → ms ≡ marksOf g x y (40 * row)
-        → Spans ms a (x - h) (x - min m h) 6 → Spans a b (x - min m h) x 7 → Spans b c x (x + min m (h + 1)) 0 → Spans c d (x + min m (h + 1)) (x + h + 1) 1
-        → d ≡ marksOf g x y (40 * (row + 1))
-    north-marks ms a b c d up e sa sb sc sd =
-        end d
-        (spanned (x + min m (h + 1)) (x + h + 1) 1 c d (omega arith) (omega arith) (λ i n p q. north-1 x y (eastOf i) (northOf i) m h r (omega arith) (omega arith) p q)
-        (spanned x (x + min m (h + 1)) 0 b c (omega arith) (omega arith) (λ i n p q. north-0 x y (eastOf i) (northOf i) m h r (omega arith) (omega arith) even (omega arith) p q)
-        (spanned (x - min m h) x 7 a b (omega arith) (omega arith) (λ i n p q. north-7 x y (eastOf i) (northOf i) m h r (omega arith) (omega arith) p q)
-        (spanned (x - h) (x - min m h) 6 ms a (omega arith) (omega arith) (λ i n p q. north-6 x y (eastOf i) (northOf i) m h r (omega arith) (omega arith) p q)
-        (start ms e) sa) sb) sc) sd)
+    pub north-marks : (ms : List Bool) → y < 2 * row + 1 → ms ≡ marksOf g x y (40 * row) → northSpans hs ms row x m h ≡ marksOf g x y (40 * (row + 1))
+    north-marks ms up e =
+        end _
+        (spanned (x + min m (h + 1)) (x + h + 1) 1 _ (omega arith) (omega arith)
+        (λ i n p q. north-1 x y (eastOf i) (northOf i) m h r (omega arith) (omega arith) p q)
+        (spanned x (x + min m (h + 1)) 0 _ (omega arith) (omega arith)
+        (λ i n p q. north-0 x y (eastOf i) (northOf i) m h r (omega arith) (omega arith) even (omega arith) p q)
+        (spanned (x - min m h) x 7 _ (omega arith) (omega arith)
+        (λ i n p q. north-7 x y (eastOf i) (northOf i) m h r (omega arith) (omega arith) p q)
+        (spanned (x - h) (x - min m h) 6 _ (omega arith) (omega arith)
+        (λ i n p q. north-6 x y (eastOf i) (northOf i) m h r (omega arith) (omega arith) p q)
+        (start ms e)))))
 
-    pub south-marks :
-        (ms a b c d : List Bool) → 2 * row + 1 < y → ms ≡ marksOf g x y (40 * row)
-        → Spans ms a (x - h) (x + 1 - min m (h + 1)) 5 → Spans a b (x + 1 - min m (h + 1)) (x + 1) 4
-        → Spans b c (x + 1) (x + min m h + 1) 3 → Spans c d (x + min m h + 1) (x + h + 1) 2
-        → d ≡ marksOf g x y (40 * (row + 1))
-    south-marks ms a b c d up e sa sb sc sd =
-        end d
-        (spanned (x + min m h + 1) (x + h + 1) 2 c d (omega arith) (omega arith) (λ i n p q. south-2 x y (eastOf i) (northOf i) m h r (omega arith) (omega arith) p q)
-        (spanned (x + 1) (x + min m h + 1) 3 b c (omega arith) (omega arith) (λ i n p q. south-3 x y (eastOf i) (northOf i) m h r (omega arith) (omega arith) p q)
-        (spanned (x + 1 - min m (h + 1)) (x + 1) 4 a b (omega arith) (omega arith) (λ i n p q. south-4 x y (eastOf i) (northOf i) m h r (omega arith) (omega arith) even (omega arith) p q)
-        (spanned (x - h) (x + 1 - min m (h + 1)) 5 ms a (omega arith) (omega arith) (λ i n p q. south-5 x y (eastOf i) (northOf i) m h r (omega arith) (omega arith) p q)
-        (start ms e) sa) sb) sc) sd)
+    pub south-marks : (ms : List Bool) → 2 * row + 1 < y → ms ≡ marksOf g x y (40 * row) → southSpans hs ms row x m h ≡ marksOf g x y (40 * (row + 1))
+    south-marks ms up e =
+        end _
+        (spanned (x + min m h + 1) (x + h + 1) 2 _ (omega arith) (omega arith)
+        (λ i n p q. south-2 x y (eastOf i) (northOf i) m h r (omega arith) (omega arith) p q)
+        (spanned (x + 1) (x + min m h + 1) 3 _ (omega arith) (omega arith)
+        (λ i n p q. south-3 x y (eastOf i) (northOf i) m h r (omega arith) (omega arith) p q)
+        (spanned (x + 1 - min m (h + 1)) (x + 1) 4 _ (omega arith) (omega arith)
+        (λ i n p q. south-4 x y (eastOf i) (northOf i) m h r (omega arith) (omega arith) even (omega arith) p q)
+        (spanned (x - h) (x + 1 - min m (h + 1)) 5 _ (omega arith) (omega arith)
+        (λ i n p q. south-5 x y (eastOf i) (northOf i) m h r (omega arith) (omega arith) p q)
+        (start ms e)))))
 
     -- the place's own row, and its own cell, which is not over 3 km away
-    pub level-marks :
-        (ms a d : List Bool) → y ≡ 2 * row + 1 → ms ≡ marksOf g x y (40 * row)
-        → Spans ms a (x - h) x 6 → Spans a d (x + 1) (x + h + 1) 2
-        → d ≡ marksOf g x y (40 * (row + 1))
-    unfolding cutAt
-    level-marks ms a d lv e sa sd =
-        end d
-        (spanned (x + 1) (x + h + 1) 2 a d (omega arith) (omega arith) (λ i n p q. level-2 x y (eastOf i) (northOf i) m h r (omega arith) (omega arith) even (omega arith) p q)
-        (spanned (x - h) x 6 ms a (omega arith) (omega arith) (λ i n p q. level-6 x y (eastOf i) (northOf i) m h r (omega arith) (omega arith) even (omega arith) p q) (start ms e) sa
-        ∙ marks-skip g x y (cutAt row x) (cutAt row (x + 1)) (omega arith)
-          (λ i p q. let t = part row x (x + 1) i p q in low-none g x y i (own x y i (omega arith) (omega arith)))) sd)
+    pub level-marks : (ms : List Bool) → y ≡ 2 * row + 1 → ms ≡ marksOf g x y (40 * row) → levelSpans hs ms row x h ≡ marksOf g x y (40 * (row + 1))
+    level-marks ms lv e =
+        end _
+        (spanned (x + 1) (x + h + 1) 2 _ (omega arith) (omega arith)
+        (λ i n p q. level-2 x y (eastOf i) (northOf i) m h r (omega arith) (omega arith) even (omega arith) p q)
+        (spanned (x - h) x 6 _ (omega arith) (omega arith)
+        (λ i n p q. level-6 x y (eastOf i) (northOf i) m h r (omega arith) (omega arith) even (omega arith) p q) (start ms e)
+        ∙ marks-skip g x y (cutAt row x) (cutAt row (x + 1)) (cut-mono row x (x + 1) (omega arith))
+        (λ i p q. let t = part row x (x + 1) i p q in low-none g x y i (own x y i (omega arith) (omega arith)))))

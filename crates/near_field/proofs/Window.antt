@@ -3,9 +3,8 @@ use mathlib.Core.Path.{_≡_, refl, sym, ap, _∙_}
 use mathlib.Core.Bool.{Bool, true, false, cond}
 use mathlib.Core.Logic.{⊎-elim}
 use mathlib.Core.List.{List}
-use Prim.Native.Nat.{ℕ, zero, suc, _+_, _-_, _*_, _/_, _%_, _^_, _≤_, _<_, min, max}
+use Prim.Native.Nat.{ℕ, zero, suc, _+_, _-_, _*_, _/_, _%_, _^_, _≤_, _<_, max}
 use native.Mathlib.Nat.{eq-or-lt-of-le, pow-suc}
-use native.Mathlib.Numerals.{add-one}
 use native.Mathlib.Omega.{arith}
 use borrow.Author.Tests.{le-leb, lt-leb}
 use lib.Bits.{bitOr, or-step}
@@ -15,7 +14,7 @@ use lib.ListN.{getD, replicate}
 use Rattle.cells.specs.Cells.{bitsOf, occupiedWord}
 use Rattle.cells.specs.Passes.{pass, howMany}
 use Rattle.cells.proofs.Passes.{pass-none, pass-next, pass-skip}
-use Rattle.near_field.specs.Plane.{northOf, apart}
+use Rattle.near_field.specs.Plane.{apart}
 use Rattle.near_field.specs.declared.Nearby.{Nearby}
 use Rattle.near_field.specs.Marks.{occ, near, marksOf, bitsIn, aroundOf}
 use Rattle.near_field.specs.Counts.{countsOf, under, cutAt}
@@ -130,7 +129,7 @@ module _ (g : List ℕ) (x y row m h : ℕ) (hx : x < 80) (hr : row < 40) (em : 
       (howMany (occ g) (cutAt row (x - h))) (howMany (occ g) (cutAt row (x + h + 1))) u v a b west span east
       (count-mono (occ g) (cutAt row (x - h)) (cutAt row (x + h + 1)) l)
       (omega (arith, count-less (occ g) (cutAt row (x - h)) (cutAt row (x + h + 1)) l)) where
-    counted :
-        (n0 n1 n2 n3 o1 o2 u v : ℕ) → u ≡ o1 → v ≡ o2 → n1 ≡ n0 → n2 + o1 ≡ n1 + o2 → n3 ≡ n2 → o1 ≤ o2 → o2 ≤ o1 + 40
-        → (u ≤ v) × (n0 + (v - u) ≡ n3) × (v - u ≤ 40)
-    counted n0 n1 n2 n3 o1 o2 u v a b c d e f k = (omega arith, omega arith, omega arith)
+        counted :
+            (n0 n1 n2 n3 o1 o2 u v : ℕ) → u ≡ o1 → v ≡ o2 → n1 ≡ n0 → n2 + o1 ≡ n1 + o2 → n3 ≡ n2 → o1 ≤ o2 → o2 ≤ o1 + 40
+            → (u ≤ v) × (n0 + (v - u) ≡ n3) × (v - u ≤ 40)
+        counted n0 n1 n2 n3 o1 o2 u v a b c d e f k = (omega arith, omega arith, omega arith)

@@ -7,12 +7,12 @@ ghost use Rattle.cells.specs.Cells.{occupiedWord};
 ghost use Rattle.cells.specs.Passes.{table};
 ghost use Rattle.near_field.specs.Plane.{eastOf, northOf, fromSite, over3, sectorFrom};
 ghost use Rattle.near_field.specs.Marks.{some, cellIn, aroundOf, sectorsIn, outsideOf};
-use angles::bearing;
-use angles::num;
 use super::Nearby;
 use super::near;
 use super::plane;
 use super::spans;
+use angles::bearing;
+use angles::num;
 use view::Far;
 
 // How many sectors are marked.

@@ -1,18 +1,17 @@
 // Around a place, row by row. In a row the cells within 25 km of a place stand side by side, and so do those of one sector: of each such span
 // two counts of the cells heard before its ends tell how many it holds. So a place asks 11 rows and not 1,600 cells.
 ghost use mathlib.Core.Path.{_≡_};
-ghost use mathlib.Core.Bool.{cond, true};
+ghost use mathlib.Core.Bool.{cond};
 ghost use lib.Bits.{bitOr};
 ghost use lib.Count.{ones};
 ghost use Rattle.cells.specs.Cells.{bitsOf, occupiedWord};
 ghost use mathlib.Core.List.{List};
 ghost use Prim.Native.Nat.{ℕ, _+_, _-_, _*_, _/_, _%_, _≤_, _<_, min};
-ghost use lib.Dec.{leb, ltb};
-ghost use lib.ListN.{getD, set};
+ghost use lib.Dec.{leb};
 ghost use Rattle.cells.specs.Passes.{howMany};
 ghost use Rattle.near_field.specs.Plane.{square, apart};
 ghost use Rattle.near_field.specs.Marks.{marksOf, bitsIn, near};
-ghost use Rattle.near_field.specs.Counts.{countsOf, under, cutAt};
+ghost use Rattle.near_field.specs.Counts.{countsOf, under, cutAt, spanOf};
 use super::near;
 use super::plane;
 
@@ -76,7 +75,7 @@ pub fn reach(m: u32) -> u32
 // The marks with that of a sector, if its span of a row holds a cell.
 fn span(heard: &[u32; 1601], marks: [bool; 8], from: usize, to: usize, sector: usize) -> [bool; 8]
     requires { ⌜ (from ≤ 1600) × (to ≤ 1600) × (sector < 8) ⌝ }
-    ensures { λ r. ⌜ r ≡ cond (ltb (getD (now (heard .entry)) from 0) (getD (now (heard .entry)) to 0)) (set marks sector true) marks ⌝ }
+    ensures { λ r. ⌜ r ≡ spanOf (now (heard .entry)) marks from to sector ⌝ }
 {
     if heard[from] < heard[to] {
         let mut m = marks;

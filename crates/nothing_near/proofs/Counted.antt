@@ -1,23 +1,20 @@
 -- The counts and sums of specs/Counted are what the places heard have: their number, their positions, how many are under 60 km, and those passed at each step.
 -- Assumes nothing.
-use mathlib.Core.Path.{_≡_, refl, sym, ap, _∙_}
-use mathlib.Core.Bool.{Bool, true, false, _&&_, cond, true≢false}
-use mathlib.Core.Logic.{⊎-elim}
-use mathlib.Core.List.{List, [], _++_}
-use Prim.Native.Nat.{ℕ, zero, suc, _+_, _-_, _*_, _%_, _≤_, _<_}
-use native.Mathlib.Nat.{mod-lt, zero-lt-suc, add-zero, eq-or-lt-of-le, le-of-suc-le-suc}
+use mathlib.Core.Path.{_≡_, refl, ap, _∙_}
+use mathlib.Core.Bool.{Bool, true, false, _&&_, cond}
+use mathlib.Core.List.{List}
+use Prim.Native.Nat.{ℕ, zero, suc, _+_, _-_, _%_, _<_}
+use native.Mathlib.Nat.{mod-lt, zero-lt-suc, add-zero}
 use native.Mathlib.Omega.{arith}
-use borrow.Author.Tests.{ltb-true, ltb-false, lt-ltb, le-ltb, le-leb, lt-leb}
-use lib.Dec.{leb, ltb, leb·suc-suc}
+use borrow.Author.Tests.{ltb-true, lt-ltb, lt-leb}
+use lib.Dec.{leb, ltb}
 use lib.ListN.{length, getD}
 use Rattle.cells.specs.Cells.{countOf, occupiedWord}
-use Rattle.cells.specs.Passes.{pass, sumOf, howMany, first}
-use Rattle.cells.proofs.Passes.{first-le, first-bound, pass-all}
+use Rattle.cells.specs.Passes.{sumOf, first}
+use Rattle.cells.proofs.Passes.{pass-all}
 use Rattle.view.specs.declared.Far.{Far}
 use Rattle.near_field.specs.Plane.{square, fromSite, steps}
 use Rattle.near_field.specs.Near.{cellsWithin}
-use Rattle.near_field.proofs.Squares.{square-is, square-le}
-use Rattle.nothing_near.specs.Sorted.{total}
 use Rattle.nothing_near.specs.Nothing.{Place, nearestOf, typicalOf, positionsOf, km, edges, halfway, cellPlace, binPlace, heard, placesHeard, places, positionsIn}
 use Rattle.nothing_near.specs.Counted.{positionsAmong, occupiedAmong, nearCells, cellStep, binStep}
 use Rattle.nothing_near.proofs.Sorted.{sumWhere, countWhere, within, sum-append, total-where, length-where}

@@ -1,20 +1,23 @@
 -- Positions gathered by steps: what stands below k is the sum of all that have a step below k, so no word need be asked again for each k. Assumes nothing.
 use mathlib.Core.Path.{_≡_, refl, sym, ap, _∙_}
 use mathlib.Core.Bool.{Bool, true, false, cond}
-use mathlib.Core.List.{List, []}
-use Prim.Native.Nat.{ℕ, zero, suc, _+_, _*_, _≤_, _<_}
+use mathlib.Core.List.{List}
+use Prim.Native.Nat.{ℕ, zero, suc, _+_, _≤_, _<_, _*_}
 use native.Mathlib.Numerals.{add-one}
 use native.Mathlib.Omega.{arith}
+use native.Mathlib.Nat.{add-zero}
 use borrow.Author.Tests.{eqb-true, eqb-false, ltb-true, ltb-false, lt-ltb, le-ltb}
 use lib.Dec.{ltb, eqb}
 use lib.ListN.{length, getD, set, replicate, length-set, length-replicate}
 use lib.Seq.{getD-set-same, getD-set-other, set-getD}
-use native.Mathlib.Nat.{add-zero}
 use Rattle.cells.proofs.Passes.{pass-next}
 use Rattle.cells.specs.Cells.{countOf}
 use Rattle.cells.specs.Passes.{pass, sumOf}
-use Rattle.nothing_near.specs.Counted.{noSteps, gather, below}
-use Rattle.nothing_near.proofs.Sums.{sum-next}
+use Rattle.cells.proofs.Words.{count-small}
+use Rattle.near_field.specs.Plane.{steps}
+use Rattle.nothing_near.specs.Counted.{noSteps, gather, below, cellStep, binStep, cellSteps}
+use Rattle.nothing_near.proofs.Sums.{sum-next, sum-le}
+use Rattle.nothing_near.proofs.Steps.{cell-below, bin-below}
 
 -- ---- what stands below k
 pub below-zero : (at : List ℕ) → below at 0 ≡ 0
@@ -106,3 +109,45 @@ gather-next step words start at i e = ap (gather step words i) e ∙ sym (pass-n
 -- no positions change nothing
 pub gather-none : (at : List ℕ) (k c : ℕ) → c ≡ 0 → at ≡ set at k (getD at k 0 + c)
 gather-none at k c e = sym (ap (λ (n : ℕ). set at k (getD at k 0 + n)) e ∙ ap (set at k) (add-zero (getD at k 0)) ∙ set-getD at k 0)
+
+-- ---- all cells gathered, and then all bins
+cell-small : (i : ℕ) → cellStep i < length noSteps
+cell-small i = omega (arith, cell-below i, no-steps-length)
+
+cells-length : (grid : List ℕ) (n : ℕ) → length (pass (gather cellStep grid) noSteps n) ≡ 161
+cells-length grid n = gathered-length cellStep grid noSteps cell-small n ∙ no-steps-length
+
+bin-small : (grid : List ℕ) (j : ℕ) → binStep j < length (cellSteps grid)
+unfolding cellSteps
+bin-small grid j = omega (arith, bin-below j, cells-length grid 1600)
+
+-- what stands below k: the positions of the cells so far, and then of all cells and the bins so far
+abbrev atCells : List ℕ → ℕ → ℕ → ℕ
+atCells grid k n = sumOf (λ (i : ℕ). ltb (cellStep i) k) (λ (i : ℕ). countOf (getD grid i 0)) n
+
+abbrev atBins : List ℕ → ℕ → ℕ → ℕ
+atBins bins k n = sumOf (λ (j : ℕ). ltb (binStep j) k) (λ (j : ℕ). countOf (getD bins j 0)) n
+
+cells-below : (grid : List ℕ) (n k : ℕ) → below (pass (gather cellStep grid) noSteps n) k ≡ atCells grid k n
+cells-below grid n k = gathered-below cellStep grid noSteps cell-small n k ∙ (let e = no-steps-below k in omega arith)
+
+pub bins-below : (grid bins : List ℕ) (n k : ℕ) → below (pass (gather binStep bins) (cellSteps grid) n) k ≡ atCells grid k 1600 + atBins bins k n
+unfolding cellSteps
+bins-below grid bins n k = gathered-below binStep bins (cellSteps grid) (bin-small grid) n k ∙ ap (λ (m : ℕ). m + atBins bins k n) (cells-below grid 1600 k)
+
+-- so no number there passes 255 for each word
+pub cells-fit : (grid : List ℕ) (n k : ℕ) → getD (pass (gather cellStep grid) noSteps n) k 0 ≤ 255 * n
+cells-fit grid n k =
+    omega (arith, at-le (pass (gather cellStep grid) noSteps n) k, cells-below grid n (suc k), sum-le (λ (i : ℕ). ltb (cellStep i) (suc k)) (λ (i : ℕ). countOf (getD grid i 0)) (λ i. count-small (getD grid i 0)) n)
+
+pub bins-fit : (grid bins : List ℕ) (n k : ℕ) → below (pass (gather binStep bins) (cellSteps grid) n) k ≤ 408000 + 255 * n
+bins-fit grid bins n k =
+    omega (
+      arith,
+      bins-below grid bins n k,
+      sum-le (λ (i : ℕ). ltb (cellStep i) k) (λ (i : ℕ). countOf (getD grid i 0)) (λ i. count-small (getD grid i 0)) 1600,
+      sum-le (λ (j : ℕ). ltb (binStep j) k) (λ (j : ℕ). countOf (getD bins j 0)) (λ j. count-small (getD bins j 0)) n,
+    )
+
+pub bins-below-fit : (grid bins : List ℕ) (n k : ℕ) → getD (pass (gather binStep bins) (cellSteps grid) n) k 0 ≤ 408000 + 255 * n
+bins-below-fit grid bins n k = omega (arith, at-le (pass (gather binStep bins) (cellSteps grid) n) k, bins-fit grid bins n (suc k))

@@ -1,7 +1,12 @@
 -- Laws that the proofs of more than one function cite.
 pub mod Sorted
 pub mod Sums
-pub mod Gathered
 pub mod Steps
+pub mod Gathered
 pub mod Counted
+pub mod Silent
+pub mod Third
+pub mod Typical
 pub mod Answers
+pub mod Said
+pub mod Cases

@@ -2,7 +2,7 @@
 -- twice a running sum of weights first reaches a total is at most d exactly when twice the weights of all elements with a key of at most d reach it.
 -- So neither asks for the order: sums and counts do not depend on it. Assumes nothing.
 use mathlib.Core.Path.{_≡_, refl, sym, ap, _∙_}
-use mathlib.Core.Bool.{Bool, true, false, cond, true≢false}
+use mathlib.Core.Bool.{Bool, true, false, cond}
 use mathlib.Core.List.{List, [], _∷_, _++_}
 use Prim.Native.Nat.{ℕ, zero, suc, _+_, _*_, _≤_, _<_}
 use native.Mathlib.Omega.{arith}

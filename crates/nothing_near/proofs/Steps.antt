@@ -2,26 +2,29 @@
 use mathlib.Core.Path.{_≡_, refl, sym, ap, _∙_}
 use mathlib.Core.Bool.{Bool, true, false, _&&_, true≢false}
 use mathlib.Core.Logic.{⊎-elim}
-use Prim.Native.Nat.{ℕ, zero, suc, _+_, _-_, _*_, _≤_, _<_}
-use native.Mathlib.Nat.{eq-or-lt-of-le, le-of-suc-le-suc}
+use mathlib.Core.List.{List, [], _∷_}
+use Prim.Native.Nat.{ℕ, zero, suc, _+_, _-_, _*_, _≤_, _<_, _%_}
+use native.Mathlib.Nat.{eq-or-lt-of-le, le-of-suc-le-suc, mod-lt, zero-lt-suc}
 use native.Mathlib.Omega.{arith}
 use borrow.Author.Tests.{leb-true, ltb-true, lt-ltb, le-ltb}
 use lib.Dec.{leb, ltb, leb·suc-suc}
-use Rattle.cells.specs.Passes.{first}
+use lib.ListN.{getD}
 use Rattle.cells.proofs.Passes.{first-le, first-bound, first-unique}
-use Rattle.near_field.specs.Plane.{square, steps}
+use Rattle.near_field.specs.Plane.{square, steps, fromSite}
 use Rattle.near_field.proofs.Squares.{square-le}
+use Rattle.nothing_near.specs.Nothing.{km, edges, halfway}
+use Rattle.nothing_near.specs.Counted.{cellStep, binStep}
 
 -- ---- a test that passes at every number below n
 unfoldable pub every : (ℕ → Bool) → ℕ → Bool
 every p zero = true
 every p (suc n) = p n && every p n
 
-pub left : (a b : Bool) → (a && b) ≡ true → a ≡ true
+left : (a b : Bool) → (a && b) ≡ true → a ≡ true
 left true b e = refl
 left false b e = e
 
-pub right : (a b : Bool) → (a && b) ≡ true → b ≡ true
+right : (a b : Bool) → (a && b) ≡ true → b ≡ true
 right true b e = e
 right false b e = absurd (true≢false (sym e))
 
@@ -67,3 +70,26 @@ step-is d t e =
     (first-unique (λ (k : ℕ). ltb d (odd k)) 160 t (leb-true t 160 (left (leb t 160) (leb (odd (t - 1)) d && ltb d (odd t)) e2))
     (λ j l. le-ltb d (odd j) (omega (arith, square-le {m = (2 * j + 1) * 1} {n = (2 * (t - 1) + 1) * 1} (omega arith))))
     (λ l. right (leb (odd (t - 1)) d) (ltb d (odd t)) e3))
+
+-- ---- cells and bins
+pub bin-below : (j : ℕ) → binStep j < 161
+unfolding binStep
+bin-below j = step-small (km (getD (halfway edges) (j % 9) 0))
+
+pub cell-below : (i : ℕ) → cellStep i < 161
+unfolding cellStep
+cell-below i = step-small (fromSite i)
+
+-- ---- the nine bands
+unfoldable pub typicals : List ℕ
+typicals = 25 ∷ 35 ∷ 45 ∷ 55 ∷ 65 ∷ 75 ∷ 90 ∷ 120 ∷ 160 ∷ []
+
+bands-right : every (λ (b : ℕ). isStep (km (getD (halfway edges) b 0)) (getD typicals b 0)) 9 ≡ true
+unfolding typicals every isStep odd km square edges halfway
+bands-right = refl
+
+pub band-steps : (j : ℕ) → getD typicals (j % 9) 0 ≡ binStep j
+unfolding binStep
+band-steps j =
+    step-is (km (getD (halfway edges) (j % 9) 0)) (getD typicals (j % 9) 0)
+    (every-at (λ (b : ℕ). isStep (km (getD (halfway edges) b 0)) (getD typicals b 0)) 9 bands-right (j % 9) (mod-lt j (zero-lt-suc 8)))

@@ -1,5 +1,5 @@
--- Nothing near (01-scope.md, 'A judging', 3), over the places heard. Definitions only.
--- Distances are squares, in half cells of 2.5 km.
+-- Nothing near (01, "A judging", 3), over the list of places heard. Definitions only.
+-- Distances are squares of half cells of 2.5 km (01: Grid distances and the mean compare by whole squares).
 use Prim.Native.Nat.{ℕ, _+_, _-_, _*_, _/_, _%_, min}
 use mathlib.Core.Bool.{_&&_, cond}
 use mathlib.Core.List.{List, [], _∷_, _++_}
@@ -32,11 +32,11 @@ positionsOf p = p .positions
 unfoldable pub km : ℕ → ℕ
 km n = square (2 * n / 5)
 
--- 01, Ticks, plane and sphere: 'edge of 100, 150, 200, 250, 300, 350, 400, 500, 700'
+-- 01, Ticks, plane and sphere: the last edge of 100, 150, 200, 250, 300, 350, 400, 500, 700 reached
 unfoldable pub edges : List ℕ
 edges = 100 ∷ 150 ∷ 200 ∷ 250 ∷ 300 ∷ 350 ∷ 400 ∷ 500 ∷ 700 ∷ []
 
--- 'a bin's typical is halfway to the next edge, the last 800'
+-- 01: a bin's typical is halfway to the next edge, the last 800
 unfoldable pub halfway : List ℕ → List ℕ
 halfway [] = []
 halfway (edge ∷ []) = 800 ∷ []
@@ -46,12 +46,12 @@ halfway (edge ∷ next ∷ rest) = (edge + next) / 2 ∷ halfway (next ∷ rest)
 unfoldable pub cellPlace : List ℕ → ℕ → Place
 cellPlace grid i = record { nearest = fromSite i; typical = fromSite i; positions = countOf (getD grid i 0) }
 
--- far bin 9 × sector + band, 'a bin counting by its edge'
+-- 01: a bin counting by its edge. Bin j is 9 × sector + band.
 unfoldable pub binPlace : List ℕ → ℕ → Place
 binPlace bins j =
     record { nearest = km (getD edges (j % 9) 0); typical = km (getD (halfway edges) (j % 9) 0); positions = countOf (getD bins j 0) }
 
--- 'Occupied means a count above 0': the places of those of the first n words that are occupied, in their order
+-- 01: Occupied means a count above 0. The places of those of the first n words that are occupied, in their order
 unfoldable pub heard : (ℕ → Place) → List ℕ → ℕ → List Place
 heard place words n = pass (λ (i : ℕ) (l : List Place). cond (occupiedWord (getD words i 0)) (l ++ (place i ∷ [])) l) [] n
 
@@ -59,15 +59,15 @@ heard place words n = pass (λ (i : ℕ) (l : List Place). cond (occupiedWord (g
 unfoldable pub placesHeard : List ℕ → Far → List Place
 placesHeard grid far = heard (cellPlace grid) grid 1600 ++ heard (binPlace (far .cells)) (far .cells) 72
 
--- how many places there are
+-- 01, 4: .. places
 unfoldable pub places : List ℕ → Far → ℕ
 places grid far = length (placesHeard grid far)
 
--- 'the third .. (the last of fewer)': number 2 of a list, from 0, or its last
+-- 01: the third .. (the last of fewer): number 2 of a list, from 0, or its last
 unfoldable pub thirdOrLast : List Place → ℕ
 thirdOrLast l = min 2 (length l - 1)
 
--- 'the third nearest place'
+-- 01: the third nearest place
 unfoldable pub third : List Place → Place
 third l = getD (ascending nearestOf l) (thirdOrLast l) (record { nearest = 0; typical = 0; positions = 0 })
 
@@ -75,11 +75,11 @@ third l = getD (ascending nearestOf l) (thirdOrLast l) (record { nearest = 0; ty
 unfoldable pub positionsIn : List Place → ℕ
 positionsIn l = total positionsOf l
 
--- 'the first typical, ascending, at which twice the positions passed reach the total'
+-- 01: the distance is the first typical, ascending, at which twice the positions passed reach the total
 unfoldable pub typicalIn : List Place → ℕ
 typicalIn l = firstReaching typicalOf positionsOf (positionsIn l) 0 (ascending typicalOf l)
 
--- 'Nothing near: 60 or more positions, and the third nearest place at least 60 km'; off is the typical distance, as it is said
+-- 01: Nothing near: 60 or more positions, and the third nearest place at least 60 km
 unfoldable pub nothingNearIn : List Place → Empty
 nothingNearIn l = cond (leb 60 (positionsIn l) && leb (km 60) (third l .nearest)) (Off (said (typicalIn l) 1)) Heard
 

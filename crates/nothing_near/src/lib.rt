@@ -1,10 +1,11 @@
 // Nothing heard near the site: how far the typical position is. What is written here asks for no order of the places: it
 // counts those under 60 km, and gathers all positions by the 5 km step that their distance is said in.
 ghost use mathlib.Core.Path.{_≡_};
-ghost use Prim.Native.Nat.{_+_, _*_, _≤_, _<_, max};
+ghost use Prim.Native.Nat.{_+_, _*_, _≤_, _<_, min, max};
+ghost use lib.Dec.{ltb};
 ghost use lib.ListN.{length, getD, set};
 ghost use Rattle.cells.specs.Cells.{countOf};
-ghost use Rattle.nothing_near.specs.Nothing.{places, nothingNear};
+ghost use Rattle.nothing_near.specs.Nothing.{km, placesHeard, places, third, positionsIn, nothingNear};
 ghost use Rattle.nothing_near.specs.Counted.{positionsAmong, occupiedAmong, nearCells, cellStep, binStep, cellSteps, allSteps, typicalSteps};
 use near_field::near;
 use near_field::plane;
@@ -52,12 +53,47 @@ pub fn places_in(grid: &[u32; 1600], far: Far) -> u32
     occupied_among(grid) + occupied_among(&bins)
 }
 
+// How many occupied cells are under 60 km away, but no more than three. Rows 0 to 7 and 32 to 39 have none.
+fn near_cells(grid: &[u32; 1600]) -> u32
+    ensures { λ r. ⌜ r ≡ min 3 (nearCells (now (grid .entry))) ⌝ }
+{
+    let mut n: u32 = 0;
+    let mut i = 320;
+    while i < 1280 {
+        n += near::part(near::is_within(grid[i], i, 575), 1);
+        if n == 3 {
+            return 3;
+        }
+        i += 1;
+    }
+    n
+}
+
+// Whether the third nearest place, or the last of fewer, is under 60 km away; `in_grid` are the positions of the grid.
+fn third_is_near(grid: &[u32; 1600], far: Far, in_grid: u32) -> bool
+    requires { ⌜ («in_grid» ≡ positionsAmong (now grid) 1600) × (0 < positionsIn (placesHeard (now grid) far)) ⌝ }
+    ensures { λ r. ⌜ r ≡ ltb (third (placesHeard (now (grid .entry)) far) .nearest) (km 60) ⌝ }
+{
+    if in_grid == 0 {
+        return false;
+    }
+    let near = near_cells(grid);
+    if near == 0 {
+        return false;
+    }
+    if near == 3 {
+        return true;
+    }
+    places_in(grid, far) <= near
+}
+
 // The steps that a cell's distance is said in.
 fn cell_step(i: usize) -> usize
     requires { ⌜ i < 1600 ⌝ }
     ensures { λ r. ⌜ (r ≡ cellStep i) × (r < 161) ⌝ }
 {
-    plane::steps_of(plane::distance(plane::east_of(i), plane::north_of(i), 40, 40), 1) as usize
+    let d = plane::distance(plane::east_of(i), plane::north_of(i), 40, 40);
+    plane::steps_of(d, 1) as usize
 }
 
 // The steps of the nine bands' typical distances.
@@ -82,11 +118,15 @@ fn gather_cell(at: &mut [u32; 161], w: u32, i: usize)
     at[k] = at[k] + n;
 }
 
-// The positions of the cells, by their steps.
-fn cell_steps(grid: &[u32; 1600]) -> [u32; 161]
+// The positions of the cells, by their steps; `in_grid` is how many they are.
+fn cell_steps(grid: &[u32; 1600], in_grid: u32) -> [u32; 161]
+    requires { ⌜ «in_grid» ≡ positionsAmong (now grid) 1600 ⌝ }
     ensures { λ r. ⌜ r ≡ cellSteps (now (grid .entry)) ⌝ }
 {
     let mut at = [0u32; 161];
+    if in_grid == 0 {
+        return at;
+    }
     let mut i = 0;
     while i < 1600 {
         gather_cell(&mut at, grid[i], i);
@@ -96,10 +136,11 @@ fn cell_steps(grid: &[u32; 1600]) -> [u32; 161]
 }
 
 // The positions of all places, by their steps.
-fn all_steps(grid: &[u32; 1600], bins: [u32; 72]) -> [u32; 161]
+fn all_steps(grid: &[u32; 1600], bins: [u32; 72], in_grid: u32) -> [u32; 161]
+    requires { ⌜ «in_grid» ≡ positionsAmong (now grid) 1600 ⌝ }
     ensures { λ r. ⌜ r ≡ allSteps (now (grid .entry)) bins ⌝ }
 {
-    let mut at = cell_steps(grid);
+    let mut at = cell_steps(grid, in_grid);
     let mut j = 0;
     while j < 72 {
         let k = bin_step(j);
@@ -110,10 +151,11 @@ fn all_steps(grid: &[u32; 1600], bins: [u32; 72]) -> [u32; 161]
 }
 
 // The steps of the typical distance: the least at which twice the positions so far reach the total.
-fn typical_steps(grid: &[u32; 1600], bins: [u32; 72], total: u32) -> u32
+fn typical_steps(grid: &[u32; 1600], bins: [u32; 72], in_grid: u32, total: u32) -> u32
+    requires { ⌜ «in_grid» ≡ positionsAmong (now grid) 1600 ⌝ }
     ensures { λ r. ⌜ (r ≡ typicalSteps (now (grid .entry)) bins total) × (r ≤ 160) ⌝ }
 {
-    let at = all_steps(grid, bins);
+    let at = all_steps(grid, bins, in_grid);
     let mut passed: u32 = 0;
     let mut k = 0;
     while k < 160 {
@@ -134,22 +176,19 @@ fn steps_km(k: u32) -> u32
     if k < 1 { 5 } else { k * 5 }
 }
 
-// The nothing-near distance, if nothing is near.
+// The nothing-near distance, if nothing is near. The bins are summed here, so nothing is asked of `far.positions`.
 pub fn nothing_near(grid: &[u32; 1600], far: Far) -> Empty
     ensures { λ r. ⌜ r ≡ nothingNear (now (grid .entry)) far ⌝ }
 {
     let bins = far.cells;
-    let total = positions_among(grid) + positions_among(&bins);
+    let in_grid = positions_among(grid);
+    let total = in_grid + positions_among(&bins);
     if total < 60 {
         return Empty::Heard;
     }
-    let near = near::cells_within(grid, 575);
-    if 3 <= near {
+    if third_is_near(grid, far, in_grid) {
         return Empty::Heard;
     }
-    if places_in(grid, far) <= near {
-        return Empty::Heard;
-    }
-    let k = typical_steps(grid, bins, total);
+    let k = typical_steps(grid, bins, in_grid, total);
     Empty::Off(steps_km(k))
 }

@@ -5,13 +5,13 @@ use mathlib.Core.List.{List, []}
 use Prim.Native.Nat.{ℕ, zero, suc, _+_, _-_, _*_, _%_, _^_, _≤_, _<_}
 use native.Mathlib.Nat.{mul-one, mul-comm, mul-assoc, mul-pos, zero-mul, pow-le-pow-right}
 use native.Mathlib.Omega.{arith}
-use borrow.Author.Tests.{eq-eqb, ne-eqb, lt-ltb, le-ltb, le-leb, lt-leb}
+use borrow.Author.Tests.{ne-eqb, lt-ltb, le-ltb, le-leb, lt-leb}
 use lib.Dec.{T, ltb}
 use lib.IntN.{pos}
-use lib.ListN.{length, getD, take, drop, drop-of-length-le}
+use lib.ListN.{length, take, drop, drop-of-length-le}
 use lib.Ieee.{Float, nan, inf, fin, Format, binary64, low, emax, prec, up, down, odd, units, round, neg, div, ofInt, ofBits, isNan, nanBits, toBits, ne}
 use Rattle.text.specs.Text.{firstOf}
-use Rattle.text.specs.Numbers.{numberOn, overTens, thenOn, pointOf, decimalOf}
+use Rattle.text.specs.Numbers.{numberOn, overTens, thenOn, pointOf}
 use Rattle.text.specs.declared.numbers.Number.{Number}
 use Rattle.text.specs.declared.numbers.Number.the-variants as number
 use Rattle.text.specs.declared.numbers.Real.the-variants as real
@@ -129,12 +129,3 @@ module _ (minus : Bool) (s : List ℕ) (p : ℕ) (short : length s ≤ 16) (at :
   pub point-on : (w : ℕ) (n : Number) → numberOn 10 (10 ^ 15 - 1) 0 (take p s) ≡ number.Is w → numberOn 10 (10 ^ 15 - 1) w (drop (p + 1) s) ≡ n
       → pointOf minus s ≡ overTens minus (length s - (p + 1)) n
   point-on w n e g = point-step (number.Is w) e ∙ ap (overTens minus (length s - (p + 1))) g
-
--- ---- a minus sign in front
-pub decimal-minus : (s : List ℕ) → getD s 0 0 ≡ 45 → decimalOf s ≡ pointOf true (drop 1 s)
-unfolding decimalOf
-decimal-minus s e = rw (eq-eqb (getD s 0 0) 45 e)
-
-pub decimal-plain : (s : List ℕ) → (getD s 0 0 ≡ 45 → ⊥) → decimalOf s ≡ pointOf false s
-unfolding decimalOf
-decimal-plain s e = rw (ne-eqb (getD s 0 0) 45 e)

@@ -1,19 +1,19 @@
 -- Numbers: one turn of the loop over the digits, and the ways that it ends.
-use mathlib.Core.Path.{_≡_, refl, ap, _∙_}
+use mathlib.Core.Path.{_≡_, refl, sym, ap, _∙_, subst}
 use mathlib.Core.Bool.{Bool, true, false, _&&_, cond}
 use mathlib.Core.List.{List, [], _∷_}
 use Prim.Native.Nat.{ℕ, zero, suc, _+_, _-_, _*_, _/_, _^_, _≤_, _<_}
 use native.Mathlib.Nat.{le-div-iff-mul-le, div-lt-iff-lt-mul, mul-le-mul-left, mul-one}
 use native.Mathlib.Omega.{arith}
-use borrow.Author.Tests.{lt-ltb, le-ltb, le-leb, lt-leb, leb-true, eq-eqb, ne-eqb}
-use lib.Dec.{ltb, leb}
-use lib.ListN.{length, getD, drop}
+use borrow.Author.Tests.{lt-ltb, le-ltb, le-leb, lt-leb, leb-true}
+use lib.Dec.{T, ltb, leb}
+use lib.ListN.{length, getD, drop, List·getD-eq-default}
 use lib.Pow.{pow-pos}
 use lib.IntN.{ℤ, pos, negℤ, _-ℤ_, +ℤ-idl}
 use mir.Syntax.{Width, w64}
 use mir.Val.{toZ, SFits, hbits}
 use mir.Facts.{toZ-pos}
-use Rattle.text.specs.Numbers.{digitOf, allDigits, valueOn, numberOn, wholeOf, minusOf, plusOf, signedOf}
+use Rattle.text.specs.Numbers.{digitOf, allDigits, valueOn, numberOn, wholeOf, isMinus, unsignedOf, minusOf, plusOf, signedOf}
 use Rattle.text.specs.declared.numbers.Number.{Number}
 use Rattle.text.specs.declared.numbers.Number.the-variants as number
 use Rattle.text.proofs.Lines.{false-right, walk, walked}
@@ -89,13 +89,30 @@ within base most n k s e = by (ltb 0 (length s)) (allDigits base s) (leb (valueO
   by false y b l e = let z : _≡_ {A = ℕ} 0 1 = cc in omega arith
 
 -- ---- signed numbers
-pub signed-minus : (s : List ℕ) → getD s 0 0 ≡ 45 → signedOf s ≡ minusOf (wholeOf (2 ^ 31) (drop 1 s))
-unfolding signedOf
-signed-minus s e = rw (eq-eqb (getD s 0 0) 45 e)
+-- an empty slice has no minus sign
+pub minus-none : (s : List ℕ) → length s ≡ 0 → false ≡ isMinus s
+unfolding isMinus
+minus-none s e = rw (List·getD-eq-default s 0 {n = 0} (omega arith))
 
-pub signed-plain : (s : List ℕ) → (getD s 0 0 ≡ 45 → ⊥) → signedOf s ≡ plusOf (wholeOf (2 ^ 31 - 1) s)
+pub minus-some : (s : List ℕ) → isMinus s ≡ true → 1 ≤ length s
+minus-some [] e = absurd (subst T (sym e ∙ sym (minus-none [] refl)) tt)
+minus-some (c ∷ s) e = omega arith
+
+pub unsigned-minus : (s : List ℕ) → isMinus s ≡ true → drop 1 s ≡ unsignedOf s
+unfolding unsignedOf
+unsigned-minus s e = rw e
+
+pub unsigned-plain : (s : List ℕ) → isMinus s ≡ false → s ≡ unsignedOf s
+unfolding unsignedOf
+unsigned-plain s e = rw e
+
+pub signed-minus : (s : List ℕ) → isMinus s ≡ true → minusOf (wholeOf (2 ^ 31) (unsignedOf s)) ≡ signedOf s
 unfolding signedOf
-signed-plain s e = rw (ne-eqb (getD s 0 0) 45 e)
+signed-minus s e = rw e
+
+pub signed-plain : (s : List ℕ) → isMinus s ≡ false → plusOf (wholeOf (2 ^ 31 - 1) (unsignedOf s)) ≡ signedOf s
+unfolding signedOf
+signed-plain s e = rw e
 
 pub minus-is : (n : ℕ) → n ≤ 2 ^ 31 → pos 0 -ℤ toZ w64 n ≡ negℤ (pos n)
 minus-is n h = ap (λ (z : ℤ). pos 0 -ℤ z) (toZ-pos w64 {n = n} (omega arith)) ∙ +ℤ-idl (negℤ (pos n))

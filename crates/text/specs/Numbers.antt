@@ -1,6 +1,6 @@
 -- Numbers as a list of calls writes them. Definitions only.
 use Prim.Native.Nat.{ℕ, _+_, _-_, _*_, _^_}
-use mathlib.Core.Bool.{Bool, true, false, _&&_, cond}
+use mathlib.Core.Bool.{Bool, true, _&&_, cond}
 use mathlib.Core.List.{List, [], _∷_}
 use lib.ListN.{length, getD, take, drop}
 use lib.Dec.{eqb, leb, ltb}
@@ -52,7 +52,15 @@ unfoldable pub bitsOf : List ℕ → Number
 unfolding numberOn
 bitsOf s = cond (eqb (length s) 16) (numberOn 16 (2 ^ 64 - 1) 0 s) number.Bad
 
--- a decimal i32, with a minus (45) in front where it is negative
+-- a minus sign (45) in front, and what is left without it
+unfoldable pub isMinus : List ℕ → Bool
+isMinus s = eqb (getD s 0 0) 45
+
+unfoldable pub unsignedOf : List ℕ → List ℕ
+unfolding isMinus
+unsignedOf s = cond (isMinus s) (drop 1 s) s
+
+-- a decimal i32
 abbrev pub minusOf : Number → Signed
 minusOf (number.Is n) = signed.Is (negℤ (pos n))
 minusOf number.Bad = signed.Bad
@@ -62,8 +70,8 @@ plusOf (number.Is n) = signed.Is (pos n)
 plusOf number.Bad = signed.Bad
 
 unfoldable pub signedOf : List ℕ → Signed
-unfolding wholeOf
-signedOf s = cond (eqb (getD s 0 0) 45) (minusOf (wholeOf (2 ^ 31) (drop 1 s))) (plusOf (wholeOf (2 ^ 31 - 1) s))
+unfolding isMinus unsignedOf wholeOf
+signedOf s = cond (isMinus s) (minusOf (wholeOf (2 ^ 31) (unsignedOf s))) (plusOf (wholeOf (2 ^ 31 - 1) (unsignedOf s)))
 
 -- A decimal number with a point: one digit or more on each side of the point (46), at most 15 in all. Its value is that of the digits
 -- read as one whole number, over 10 to the number of digits behind the point; the f64 is the one nearest to it.
@@ -82,10 +90,10 @@ pointOf minus s =
     (overTens minus (length s - (firstOf 46 s + 1)) (thenOn (numberOn 10 (10 ^ 15 - 1) 0 (take (firstOf 46 s) s)) (drop (firstOf 46 s + 1) s)))
     real.Bad
 
--- a minus in front of it
+-- the same with a minus sign or none
 unfoldable pub decimalOf : List ℕ → Real
-unfolding pointOf
-decimalOf s = cond (eqb (getD s 0 0) 45) (pointOf true (drop 1 s)) (pointOf false s)
+unfolding isMinus unsignedOf pointOf
+decimalOf s = pointOf (isMinus s) (unsignedOf s)
 
 -- LAT, LON, A, B: 16 hex digits are the f64's bits; anything else is a decimal number
 abbrev pub byBits : Number → Real → Real

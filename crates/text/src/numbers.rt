@@ -6,7 +6,7 @@ ghost use Prim.Native.Nat.{_<_, _≤_, _^_, _-_};
 ghost use lib.IntN.{pos, negℤ};
 ghost use lib.Ieee as Ieee;
 ghost use lib.Ieee.{binary64};
-ghost use Rattle.text.specs.Numbers.{digitOf, numberOn, wholeOf, bitsOf, minusOf, plusOf, signedOf, pointOf, decimalOf, realOf};
+ghost use Rattle.text.specs.Numbers.{digitOf, numberOn, wholeOf, bitsOf, isMinus, unsignedOf, minusOf, plusOf, signedOf, pointOf, decimalOf, realOf};
 
 pub enum Number {
     Is(u64),
@@ -154,17 +154,27 @@ fn read_point(minus: bool, s: &[u8]) -> Real
     }
 }
 
+// Whether a minus sign stands in front, and what is left without it.
+fn is_minus(s: &[u8]) -> bool
+    ensures { λ r. ⌜ r ≡ isMinus (now (s .entry)) ⌝ }
+{
+    if s.len() == 0 {
+        return false;
+    }
+    s[0] == b'-'
+}
+
+fn unsigned(s: &[u8]) -> &[u8]
+    ensures { λ r. ⌜ now r ≡ unsignedOf (now (s .entry)) ⌝ }
+{
+    if is_minus(s) { &s[1..] } else { s }
+}
+
 // A decimal number with a point, and a minus sign or none.
 fn read_decimal(s: &[u8]) -> Real
     ensures { λ r. ⌜ r ≡ decimalOf (now (s .entry)) ⌝ }
 {
-    if s.len() == 0 {
-        return read_point(false, s);
-    }
-    if s[0] == b'-' {
-        return read_point(true, &s[1..]);
-    }
-    read_point(false, s)
+    read_point(is_minus(s), unsigned(s))
 }
 
 // A float by its 16 hex digits, or as a decimal number.
@@ -215,11 +225,9 @@ fn read_plus(s: &[u8]) -> Signed
 pub fn read_signed(s: &[u8]) -> Signed
     ensures { λ r. ⌜ r ≡ signedOf (now (s .entry)) ⌝ }
 {
-    if s.len() == 0 {
-        return read_plus(s);
+    if is_minus(s) {
+        read_minus(unsigned(s))
+    } else {
+        read_plus(unsigned(s))
     }
-    if s[0] == b'-' {
-        return read_minus(&s[1..]);
-    }
-    read_plus(s)
 }

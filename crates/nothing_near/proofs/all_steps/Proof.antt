@@ -1,96 +1,67 @@
-use Rattle.nothing_near.proofs.Answers.{bins-below-fit}
-use Rattle.nothing_near.proofs.Answers.{steps-fit, found-steps, reached-yes, reached-not, band-steps, bin-below, cells-length, bins-length, cells-fit, bins-fit}
-use Rattle.nothing_near.proofs.Gathered.{below-zero, below-suc, below-plus, gather-next, gather-none, at-le}
-use Rattle.nothing_near.proofs.Steps.{every, every-at, isStep, step-is, step-small}
-use Rattle.nothing_near.proofs.Sums.{positions-fit}
-use Rattle.nothing_near.specs.Counted.{positionsAmong, occupiedAmong, nearCells, cellStep, binStep, noSteps, gather, cellSteps, allSteps, below, reachedAt, typicalSteps}
-use Rattle.nothing_near.specs.Nothing.{km, edges, halfway, placesHeard, places, positionsIn}
-use Rattle.near_field.specs.Plane.{fromSite, steps, square}
-use Rattle.cells.proofs.Words.{count-small}
-use Rattle.cells.proofs.Passes.{pass-none, pass-next, sum-step, first-unique}
-use Rattle.cells.specs.Passes.{pass, sumOf, howMany, first}
-use Rattle.cells.specs.Cells.{countOf, occupiedWord}
-use lib.ListN.{length, getD, set}
-use lib.Dec.{leb, ltb}
-use borrow.Author.Tests.{le-leb, lt-leb}
-use borrow.Author.Needs.{needs}
-use native.Mathlib.Numerals.{add-one}
-use native.Mathlib.Omega.{arith}
-use Prim.Native.Nat.{ℕ, suc, _+_, _-_, _*_, _%_, _≤_, _<_}
+-- The loop gathers the bins on top of the cells, a word at a turn (`gather-next`).
 use mathlib.Core.List.{List}
-use mathlib.Core.Bool.{Bool, true, false, cond}
-use mathlib.Core.Path.{_≡_, refl, sym, ap, _∙_}
+use mathlib.Core.Path.{_≡_, sym, ap, _∙_}
+use Prim.Native.Nat.{ℕ, _+_, _-_, _≤_}
+use native.Mathlib.Omega.{arith}
+use borrow.Author.Needs.{needs}
+use lib.ListN.{getD, set}
+use Rattle.cells.proofs.Words.{count-small}
+use Rattle.cells.proofs.Passes.{pass-none}
+use Rattle.cells.specs.Passes.{pass}
+use Rattle.cells.specs.Cells.{countOf}
+use Rattle.nothing_near.specs.Counted.{binStep, gather, cellSteps, allSteps}
+use Rattle.nothing_near.proofs.Gathered.{bins-below-fit, gather-next}
 use Rattle.nothing_near.proofs.all_steps.Statement.{statement}
 use Rattle.nothing_near.proofs.all_steps.Tie as tie
-use Rattle.nothing_near.proofs.all_steps.Reads as reads
-use Rattle.nothing_near.proofs.all_steps.Lts as lts
-use Rattle.cells.proofs.count_of.Reads as count-of-reads
-use Rattle.nothing_near.proofs.bin_step.Reads as bin-step-reads
-use Rattle.nothing_near.proofs.cell_steps.Reads as cell-steps-reads
 
 abbrev Inv-loop : tie.InvT-loop
-Inv-loop grid bins at₀ j₀ at j = (j ≤ 72) × (at ≡ pass (gather binStep bins) (cellSteps grid) j)
+Inv-loop grid in-grid bins at₀ j₀ at j = (j ≤ 72) × (at ≡ pass (gather binStep bins) (cellSteps grid) j)
 
 abbrev μ-loop : tie.MeasureT-loop
-μ-loop grid bins at₀ j₀ at j = 72 - j
+μ-loop grid in-grid bins at₀ j₀ at j = 72 - j
 
--- src/lib.rt:102:18
 cell-steps-requires : tie.Need-cell-steps-requires Inv-loop μ-loop
-cell-steps-requires c κs = search needs
+cell-steps-requires c κs = c .pre
 
--- src/lib.rt:104:5
 loop-holds : tie.Need-loop-holds Inv-loop μ-loop
 loop-holds c = (search needs, c .cell-steps .ensures ∙ sym (pass-none (gather binStep (c .before .args .t2)) (cellSteps (c .before .args .grid .now))))
 
--- src/lib.rt:105:13
 bin-step-requires : tie.Need-bin-step-requires Inv-loop μ-loop
 bin-step-requires c κs = search needs
 
--- src/lib.rt:106:17
 mul-at : tie.Need-mul-at Inv-loop μ-loop
 mul-at c = search needs
 
--- src/lib.rt:106:17
 array-read-at : tie.Need-array-read-at Inv-loop μ-loop
 array-read-at c = search needs
 
--- src/lib.rt:106:41
 mul-count-of : tie.Need-mul-count-of Inv-loop μ-loop
 mul-count-of c = search needs
 
--- src/lib.rt:106:41
 array-read-count-of : tie.Need-array-read-count-of Inv-loop μ-loop
 array-read-count-of c = search needs
 
--- src/lib.rt:106:25
 count-of-requires : tie.Need-count-of-requires Inv-loop μ-loop
 count-of-requires c κs = search needs
 
--- src/lib.rt:106:17
 add-at : tie.Need-add-at Inv-loop μ-loop
 add-at c = let l = c .before .before .before .loop in omega (arith, ap (λ (t : List ℕ). getD t (c .before .bin-step .result) 0) (l .inv .1), bins-below-fit (c .before .before .before .before .before .args .grid .now) (c .before .before .before .before .before .args .t2) (l .j) (c .before .bin-step .result), count-small (getD (c .before .before .before .before .before .args .t2) (l .j) 0))
 
--- src/lib.rt:106:9
 mul-at-2 : tie.Need-mul-at-2 Inv-loop μ-loop
 mul-at-2 c = search needs
 
--- src/lib.rt:106:9
 array-write-at : tie.Need-array-write-at Inv-loop μ-loop
 array-write-at c = search needs
 
--- src/lib.rt:107:9
 add-j : tie.Need-add-j Inv-loop μ-loop
 add-j c = search needs
 
--- src/lib.rt:104:5
 loop-less : tie.Need-loop-less Inv-loop μ-loop
 loop-less c = search needs
 
--- src/lib.rt:104:5
 loop-again : tie.Need-loop-again Inv-loop μ-loop
 loop-again c = let l = c .before .before .before .loop in let s = c .before .before .before .before .before .args in (search needs, ap (λ (n : ℕ). set (l .at) (c .before .bin-step .result) (getD (l .at) (c .before .bin-step .result) 0 + n)) (c .count-of .ensures) ∙ ap (λ (k : ℕ). set (l .at) k (getD (l .at) k 0 + countOf (getD (s .t2) (l .j) 0))) (c .before .bin-step .ensures .0) ∙ gather-next binStep (s .t2) (cellSteps (s .grid .now)) (l .at) (l .j) (l .inv .1))
 
--- src/lib.rt:99:1
 returns : tie.Need-returns Inv-loop μ-loop
 unfolding allSteps
 returns c = let l = c .before .loop in let e : l .j ≡ 72 = omega arith in rw e at (l .inv .1)

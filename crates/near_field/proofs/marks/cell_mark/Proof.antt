@@ -1,32 +1,11 @@
-use Rattle.near_field.proofs.Marked.{cells-step, bins-step, cells-none, bins-none, cell-far, cell-near}
-use Rattle.near_field.proofs.Window.{marks-start, marks-end, cells-start, cells-end, bits-skip, bits-step, bits-start, bits-end, ones-grow, row-count}
-use Rattle.near_field.proofs.Rows.{north-marks, south-marks, level-marks, west-off, east-off, within, cut-mono, cut-start, cut-end}
-use Rattle.near_field.proofs.Squares.{arm}
-use Rattle.near_field.specs.Counts.{countsOf, under, cutAt}
-use Rattle.near_field.specs.Marks.{occ, some, near, marksOf, bitsIn, aroundOf, sectorsIn, cellIn, binIn, outsideOf}
-use Rattle.near_field.specs.Plane.{eastOf, northOf, fromSite, sectorFrom, square, apart}
-use Rattle.cells.proofs.Passes.{pass-none, sum-step, table-fill, table-full}
-use Rattle.cells.specs.Passes.{pass, howMany, table}
-use lib.ListN.{getD, set, take, replicate, length}
-use lib.Dec.{leb, ltb}
-use lib.Count.{ones}
-use borrow.Author.Tests.{lt-ltb, le-ltb, le-leb, lt-leb, not-true, not-false}
-use native.Mathlib.Omega.{arith}
-use mathlib.Core.Path.{_≡_, refl, sym, ap, subst, _∙_}
-use mathlib.Core.Bool.{Bool, true, false, cond, _&&_}
-use mathlib.Core.List.{List}
-use Prim.Native.Nat.{ℕ, _+_, _-_, _*_, _/_, _%_, _≤_, _<_, min}
+-- A cell that is empty, or not over 3 km away, marks nothing; any other marks the sector of the definition.
+use Rattle.near_field.proofs.Marked.{cell-far, cell-near}
+use borrow.Author.Tests.{not-true, not-false}
+use mathlib.Core.Path.{sym, _∙_}
+use Prim.Native.Nat.{_/_}
 use borrow.Author.Needs.{needs}
 use Rattle.near_field.proofs.marks.cell_mark.Statement.{statement}
 use Rattle.near_field.proofs.marks.cell_mark.Tie as tie
-use Rattle.near_field.proofs.marks.cell_mark.Reads as reads
-use Rattle.near_field.proofs.marks.cell_mark.Lts as lts
-use Rattle.angles.proofs.bearing.sector_of.Reads as sector-of-reads
-use Rattle.angles.proofs.num.sub.Reads as sub-reads
-use Rattle.cells.proofs.occupied.Reads as occupied-reads
-use Rattle.near_field.proofs.plane.distance.Reads as distance-reads
-use Rattle.near_field.proofs.plane.east_of.Reads as east-of-reads
-use Rattle.near_field.proofs.plane.north_of.Reads as north-of-reads
 
 -- src/marks.rt:52:9
 occupied-requires : tie.Need-occupied-requires
@@ -78,11 +57,29 @@ array-write-m c = search needs
 
 -- src/marks.rt:64:9
 returns-2 : tie.Need-returns-2
-returns-2 c = let s = c .before .before .before .before .before .before .before .before .before .args in cell-far (s .marks) (s .w) (s .i) (c .before .before .before .before .distance .result) (sym (c .before .before .before .before .before .before .before .before .occupied .ensures) ∙ not-false _ (c .before .before .before .before .before .before .before .if1 .left)) (cc (c .before .before .before .before .distance .ensures .0, c .before .before .before .before .before .north-of .ensures, c .before .before .before .before .before .before .east-of .ensures)) _ (c .before .before .before .if2 .taken) (cc (c .sector-of .ensures .0, c .before .sub2 .ensures .0, c .before .before .sub .ensures .0, c .before .before .before .before .before .north-of .ensures, c .before .before .before .before .before .before .east-of .ensures))
+returns-2 c =
+    let c3 = c .before .before .before in
+    let c4 = c3 .before in
+    let c5 = c4 .before in
+    let c6 = c5 .before in
+    let c7 = c6 .before in
+    let c8 = c7 .before in
+    let c9 = c8 .before in
+    let s = c9 .args in
+    cell-far (s .marks) (s .w) (s .i) (c4 .distance .result) (sym (c8 .occupied .ensures) ∙ not-false _ (c7 .if1 .left))
+    (cc (c4 .distance .ensures .0, c5 .north-of .ensures, c6 .east-of .ensures)) _ (c3 .if2 .taken)
+    (cc (c .sector-of .ensures .0, c .before .sub2 .ensures .0, c .before .before .sub .ensures .0, c5 .north-of .ensures, c6 .east-of .ensures))
 
 -- src/marks.rt:48:1
 returns-3 : tie.Need-returns-3
-returns-3 c = let s = c .before .before .before .before .before .before .args in cell-near (s .marks) (s .w) (s .i) (c .before .distance .result) (sym (c .before .before .before .before .before .occupied .ensures) ∙ not-false _ (c .before .before .before .before .if1 .left)) (cc (c .before .distance .ensures .0, c .before .before .north-of .ensures, c .before .before .before .east-of .ensures)) (c .if2 .left)
+returns-3 c =
+    let c3 = c .before .before .before in
+    let c4 = c3 .before in
+    let c5 = c4 .before in
+    let c6 = c5 .before in
+    let s = c6 .args in
+    cell-near (s .marks) (s .w) (s .i) (c .before .distance .result) (sym (c5 .occupied .ensures) ∙ not-false _ (c4 .if1 .left))
+    (cc (c .before .distance .ensures .0, c .before .before .north-of .ensures, c3 .east-of .ensures)) (c .if2 .left)
 
 pub cell-mark-spec : {M : Type 1} → statement M
 cell-mark-spec =

@@ -1,31 +1,15 @@
+-- After j bins the marks are the table of the sectors that hold a cell or one of the first j bins (`bins-step`).
 use mathlib.Core.Bool.{_||_}
-use Rattle.near_field.proofs.Window.{marks-start, marks-end, cells-start, cells-end, bits-skip, bits-step, bits-start, bits-end, ones-zero, enough, not-enough, around-is, row-count}
-use Rattle.near_field.proofs.Marked.{cells-step, bins-step, cells-none, bins-none, cell-far, cell-near}
-use Rattle.near_field.proofs.Window.{marks-start, marks-end, cells-start, cells-end, bits-skip, bits-step, bits-start, bits-end, ones-grow, row-count}
-use Rattle.near_field.proofs.Rows.{north-marks, south-marks, level-marks, west-off, east-off, within, cut-mono, cut-start, cut-end}
-use Rattle.near_field.proofs.Squares.{arm}
-use Rattle.near_field.specs.Counts.{countsOf, under, cutAt}
-use Rattle.near_field.specs.Marks.{occ, some, near, marksOf, bitsIn, aroundOf, sectorsIn, cellIn, binIn, outsideOf}
-use Rattle.near_field.specs.Plane.{eastOf, northOf, fromSite, sectorFrom, square, apart}
-use Rattle.cells.proofs.Passes.{pass-none, sum-step, table-fill, table-full}
-use Rattle.cells.specs.Passes.{pass, howMany, table}
-use lib.ListN.{getD, set, take, replicate, length}
-use lib.Dec.{leb, ltb}
-use lib.Count.{ones}
-use borrow.Author.Tests.{lt-ltb, le-ltb, le-leb, lt-leb, not-true, not-false}
+use Rattle.near_field.proofs.Marked.{bins-step, bins-none}
+use Rattle.near_field.specs.Marks.{some, sectorsIn, cellIn, binIn, outsideOf}
+use Rattle.cells.specs.Passes.{table}
+use lib.Dec.{leb}
 use native.Mathlib.Omega.{arith}
-use mathlib.Core.Path.{_≡_, refl, sym, ap, subst, _∙_}
-use mathlib.Core.Bool.{Bool, true, false, cond, _&&_}
-use mathlib.Core.List.{List}
-use Prim.Native.Nat.{ℕ, _+_, _-_, _*_, _/_, _%_, _≤_, _<_, min}
+use mathlib.Core.Path.{_≡_, refl, ap, _∙_}
+use Prim.Native.Nat.{ℕ, _-_, _/_, _≤_}
 use borrow.Author.Needs.{needs}
 use Rattle.near_field.proofs.marks.outside.Statement.{statement}
 use Rattle.near_field.proofs.marks.outside.Tie as tie
-use Rattle.near_field.proofs.marks.outside.Reads as reads
-use Rattle.near_field.proofs.marks.outside.Lts as lts
-use Rattle.near_field.proofs.marks.bin_mark.Reads as bin-mark-reads
-use Rattle.near_field.proofs.marks.cell_marks.Reads as cell-marks-reads
-use Rattle.near_field.proofs.marks.sectors.Reads as sectors-reads
 
 abbrev Inv-loop : tie.InvT-loop
 Inv-loop grid bins m₀ j₀ m j = (j ≤ 72) × (m ≡ table (λ (k : ℕ). some (cellIn grid k) 1600 || some (binIn bins k) j) 8)
@@ -63,7 +47,12 @@ loop-less c = search needs
 
 -- src/marks.rt:103:5
 loop-again : tie.Need-loop-again Inv-loop μ-loop
-loop-again c = let l = c .before .before .loop in (search needs, bins-step (λ (k : ℕ). some (cellIn (c .before .before .before .before .before .args .grid .now) k) 1600) _ (l .j) _ (l .m) (c .bin-mark .result) (omega arith) refl (l .inv .1) (c .bin-mark .ensures))
+loop-again c =
+    let l = c .before .before .loop in (
+      search needs,
+      bins-step (λ (k : ℕ). some (cellIn (c .before .before .before .before .before .args .grid .now) k) 1600) _ (l .j) _ (l .m)
+          (c .bin-mark .result) (omega arith) refl (l .inv .1) (c .bin-mark .ensures),
+    )
 
 -- src/marks.rt:108:5
 sectors-requires : tie.Need-sectors-requires Inv-loop μ-loop
@@ -72,7 +61,10 @@ sectors-requires c κs = search needs
 -- src/marks.rt:97:1
 returns : tie.Need-returns Inv-loop μ-loop
 unfolding outsideOf
-returns c = let l = c .before .before .loop in let e : l .j ≡ 72 = omega arith in ap (λ (n : ℕ). leb n 4) (c .sectors .ensures .0 ∙ ap sectorsIn (rw e at (l .inv .1)))
+returns c =
+    let l = c .before .before .loop in
+    let e : l .j ≡ 72 = omega arith in
+    ap (λ (n : ℕ). leb n 4) (c .sectors .ensures .0 ∙ ap sectorsIn (rw e at (l .inv .1)))
 
 pub outside-spec : {M : Type 1} → statement M
 outside-spec =

@@ -1,3 +1,4 @@
+-- After k sectors n is how many of the first k are marked (`sum-step`).
 use Rattle.near_field.specs.Marks.{sectorsIn}
 use Rattle.cells.proofs.Passes.{sum-step, pass-none}
 use Rattle.cells.specs.Passes.{howMany}
@@ -42,7 +43,13 @@ loop-less c = search needs
 
 -- src/marks.rt:97:5
 loop-again : tie.Need-loop-again Inv-loop μ-loop
-loop-again c = let l = c .before .before .loop in (search needs, sum-step (λ (j : ℕ). getD (c .before .before .before .args .t1) j false) (λ (j : ℕ). 1) (l .n) (c .part .result) (l .k) (l .inv .1) (c .part .ensures .0), omega arith)
+loop-again c =
+    let l = c .before .before .loop in (
+      search needs,
+      sum-step (λ (j : ℕ). getD (c .before .before .before .args .t1) j false) (λ (j : ℕ). 1) (l .n) (c .part .result) (l .k) (l .inv .1)
+          (c .part .ensures .0),
+      omega arith,
+    )
 
 -- src/marks.rt:92:1
 returns : tie.Need-returns Inv-loop μ-loop

@@ -1,32 +1,13 @@
-use Rattle.near_field.proofs.Judged.{nf-fits, nf-four, nf-inside, nf-hole, nf-rest, no-best, a-best, best-below, mean-under, mean-over}
-use Rattle.near_field.proofs.Found.{foundCells, most, f-empty, f-sectors, f-bits, f-found, best-none, best-step, best-cells, member-far, member-near}
-use Rattle.near_field.specs.Near.{cellsWithin, noHole, found, cellsAround, better, bestOf, member, members, meanSquare, foundOf, bestOrNone, nearFieldBy}
-use Rattle.near_field.proofs.Window.{marks-start, marks-end, cells-start, cells-end, bits-skip, bits-step, bits-start, bits-end, ones-zero, enough, not-enough, around-is, row-count}
-use Rattle.near_field.proofs.Marked.{cells-step, bins-step, cells-none, bins-none, cell-far, cell-near}
-use Rattle.near_field.proofs.Window.{marks-start, marks-end, cells-start, cells-end, bits-skip, bits-step, bits-start, bits-end, ones-grow, row-count}
-use Rattle.near_field.proofs.Rows.{north-marks, south-marks, level-marks, west-off, east-off, within, cut-mono, cut-start, cut-end}
-use Rattle.near_field.proofs.Squares.{arm}
-use Rattle.near_field.specs.Counts.{countsOf, under, cutAt}
-use Rattle.near_field.specs.Marks.{occ, some, near, marksOf, bitsIn, aroundOf, sectorsIn, cellIn, binIn, outsideOf}
-use Rattle.near_field.specs.Plane.{eastOf, northOf, fromSite, sectorFrom, square, apart}
-use Rattle.cells.proofs.Passes.{pass-none, sum-step, table-fill, table-full}
-use Rattle.cells.specs.Passes.{pass, howMany, table}
-use lib.ListN.{getD, set, take, replicate, length}
-use lib.Dec.{leb, ltb}
-use lib.Count.{ones}
-use borrow.Author.Tests.{lt-ltb, le-ltb, le-leb, lt-leb, not-true, not-false}
+-- After i cells b is the best of the first i, with the cells around it, 0 where there is none (`best-step`, `best-cells`).
+use Rattle.near_field.proofs.Found.{most, best-none, best-step, best-cells}
+use Rattle.near_field.specs.Near.{bestOf}
+use Rattle.near_field.specs.Marks.{near}
 use native.Mathlib.Omega.{arith}
-use mathlib.Core.Path.{_≡_, refl, sym, ap, subst, _∙_}
-use mathlib.Core.Bool.{Bool, true, false, cond, _&&_}
-use mathlib.Core.List.{List}
-use Prim.Native.Nat.{ℕ, _+_, _-_, _*_, _/_, _%_, _≤_, _<_, min}
+use mathlib.Core.Path.{_≡_, refl}
+use Prim.Native.Nat.{_-_, _/_, _≤_}
 use borrow.Author.Needs.{needs}
 use Rattle.near_field.proofs.near.best_cell.Statement.{statement}
 use Rattle.near_field.proofs.near.best_cell.Tie as tie
-use Rattle.near_field.proofs.near.best_cell.Reads as reads
-use Rattle.near_field.proofs.near.best_cell.Lts as lts
-use Rattle.near_field.proofs.near.found_cells.Reads as found-cells-reads
-use Rattle.near_field.proofs.near.or_better.Reads as or-better-reads
 
 abbrev Inv-loop : tie.InvT-loop
 Inv-loop grid heard b₀ i₀ b i = (i ≤ 1600) × (b .at ≡ bestOf grid i) × (b .cells ≡ most grid (b .at))
@@ -56,7 +37,15 @@ loop-less c = search needs
 
 -- src/near.rt:114:5
 loop-again : tie.Need-loop-again Inv-loop μ-loop
-loop-again c = let l = c .before .before .before .loop in let g = c .before .before .before .before .args .grid .now in (search needs, best-step g (l .i) (l .b .at) (l .b .cells) _ (c .or-better .result .at) (omega arith) (l .inv .1) (l .inv .2) (c .before .found-cells .ensures) (c .or-better .ensures .0), best-cells g (l .i) (l .b .at) (l .b .cells) _ (c .or-better .result .at) (c .or-better .result .cells) (omega arith) (l .inv .2) (c .before .found-cells .ensures) (c .or-better .ensures .0) (c .or-better .ensures .1))
+loop-again c =
+    let l = c .before .before .before .loop in
+    let g = c .before .before .before .before .args .grid .now in (
+      search needs,
+      best-step g (l .i) (l .b .at) (l .b .cells) _ (c .or-better .result .at) (omega arith) (l .inv .1) (l .inv .2)
+          (c .before .found-cells .ensures) (c .or-better .ensures .0),
+      best-cells g (l .i) (l .b .at) (l .b .cells) _ (c .or-better .result .at)
+          (c .or-better .result .cells) (omega arith) (l .inv .2) (c .before .found-cells .ensures) (c .or-better .ensures .0) (c .or-better .ensures .1),
+    )
 
 -- src/near.rt:108:1
 returns : tie.Need-returns Inv-loop μ-loop

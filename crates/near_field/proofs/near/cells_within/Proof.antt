@@ -1,3 +1,4 @@
+-- After i cells n is how many of the first i lie within the bound (`sum-step`).
 use Rattle.near_field.specs.Marks.{occ}
 use Rattle.near_field.specs.Plane.{fromSite}
 use Rattle.cells.proofs.Passes.{sum-step, pass-none}
@@ -51,7 +52,14 @@ loop-less c = search needs
 
 -- src/near.rt:53:5
 loop-again : tie.Need-loop-again Inv-loop μ-loop
-loop-again c = let l = c .before .before .before .before .loop in let s = c .before .before .before .before .before .args in (search needs, sum-step (λ (k : ℕ). occ (s .grid .now) k && leb (fromSite k) (s .bound)) (λ (j : ℕ). 1) (l .n) (c .part .result) (l .i) (l .inv .1) (cc), omega arith)
+loop-again c =
+    let l = c .before .before .before .before .loop in
+    let s = c .before .before .before .before .before .args in (
+      search needs,
+      sum-step (λ (k : ℕ). occ (s .grid .now) k && leb (fromSite k) (s .bound)) (λ (j : ℕ). 1) (l .n) (c .part .result) (l .i)
+          (l .inv .1) (cc),
+      omega arith,
+    )
 
 -- src/near.rt:48:1
 returns : tie.Need-returns Inv-loop μ-loop

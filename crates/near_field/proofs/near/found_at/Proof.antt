@@ -1,3 +1,4 @@
+-- The mean's squared distance is m / n² (`mean`): under 10 half cells, or said in steps.
 use native.Mathlib.Nat.{mul-le-mul}
 use Rattle.near_field.proofs.Judged.{mean-under, mean-over}
 use Rattle.near_field.proofs.Squares.{ten-square}
@@ -65,7 +66,11 @@ mul-if1-3 c = omega (arith, ten-square (c .before .before .before .before .befor
 
 -- src/near.rt:165:9
 returns : tie.Need-returns
-returns c = let s = c .before .before .before .before .before .before .before .args in mean-under (s .scale) (s .grid .now) (s .best) _ _ (mean (c .before)) (c .before .before .before .before .before .before .group-of .ensures .0) (c .if1 .taken)
+returns c =
+    let c6 = c .before .before .before .before .before .before in
+    let c7 = c6 .before in
+    let s = c7 .args in
+    mean-under (s .scale) (s .grid .now) (s .best) _ _ (mean (c .before)) (c6 .group-of .ensures .0) (c .if1 .taken)
 
 -- src/near.rt:168:17
 mul-rounded : tie.Need-mul-rounded
@@ -78,7 +83,12 @@ rounded-requires c κs = search needs
 
 -- src/near.rt:157:1
 returns-2 : tie.Need-returns-2
-returns-2 c = let s = c .before .before .before .before .before .before .before .before .args in mean-over (s .scale) (s .grid .now) (s .best) _ _ _ (mean (c .before .before)) (c .before .before .before .before .before .before .before .group-of .ensures .0) (c .before .if1 .left) (c .rounded .ensures)
+returns-2 c =
+    let c7 = c .before .before .before .before .before .before .before in
+    let c8 = c7 .before in
+    let s = c8 .args in
+    mean-over (s .scale) (s .grid .now) (s .best) _ _ _ (mean (c .before .before)) (c7 .group-of .ensures .0) (c .before .if1 .left)
+    (c .rounded .ensures)
 
 pub found-at-spec : {M : Type 1} → statement M
 found-at-spec =

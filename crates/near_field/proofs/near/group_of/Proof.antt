@@ -1,37 +1,21 @@
+-- After i cells the sums are those of the members among the first i (`sum-step`).
 use Rattle.cells.specs.Passes.{sumOf}
-use Rattle.near_field.proofs.Judged.{nf-fits, nf-four, nf-inside, nf-hole, nf-rest, no-best, a-best, best-below, mean-under, mean-over}
-use Rattle.near_field.proofs.Found.{foundCells, most, f-empty, f-sectors, f-bits, f-found, best-none, best-step, best-cells, member-far, member-near}
-use Rattle.near_field.specs.Near.{cellsWithin, noHole, found, cellsAround, better, bestOf, member, members, meanSquare, foundOf, bestOrNone, nearFieldBy}
-use Rattle.near_field.proofs.Marked.{cells-step, bins-step, cells-none, bins-none, cell-far, cell-near}
-use Rattle.near_field.proofs.Window.{marks-start, marks-end, cells-start, cells-end, bits-skip, bits-step, bits-start, bits-end, ones-grow, row-count}
-use Rattle.near_field.proofs.Rows.{north-marks, south-marks, level-marks, west-off, east-off, within, cut-mono, cut-start, cut-end}
-use Rattle.near_field.proofs.Squares.{arm}
-use Rattle.near_field.specs.Counts.{countsOf, under, cutAt}
-use Rattle.near_field.specs.Marks.{occ, some, near, marksOf, bitsIn, aroundOf, sectorsIn, cellIn, binIn, outsideOf}
-use Rattle.near_field.specs.Plane.{eastOf, northOf, fromSite, sectorFrom, square, apart}
-use Rattle.cells.proofs.Passes.{pass-none, sum-step, table-fill, table-full}
-use Rattle.cells.specs.Passes.{pass, howMany, table}
-use lib.ListN.{getD, set, take, replicate, length}
-use lib.Dec.{leb, ltb}
-use lib.Count.{ones}
-use borrow.Author.Tests.{lt-ltb, le-ltb, le-leb, lt-leb, not-true, not-false}
+use Rattle.near_field.specs.Near.{member}
+use Rattle.near_field.specs.Marks.{near}
+use Rattle.near_field.specs.Plane.{eastOf, northOf}
+use Rattle.cells.proofs.Passes.{pass-none, sum-step}
+use Rattle.cells.specs.Passes.{howMany}
 use native.Mathlib.Omega.{arith}
-use mathlib.Core.Path.{_≡_, refl, sym, ap, subst, _∙_}
-use mathlib.Core.Bool.{Bool, true, false, cond, _&&_}
-use mathlib.Core.List.{List}
-use Prim.Native.Nat.{ℕ, _+_, _-_, _*_, _/_, _%_, _≤_, _<_, min}
+use mathlib.Core.Path.{_≡_, sym}
+use Prim.Native.Nat.{ℕ, _-_, _*_, _/_, _≤_}
 use borrow.Author.Needs.{needs}
 use Rattle.near_field.proofs.near.group_of.Statement.{statement}
 use Rattle.near_field.proofs.near.group_of.Tie as tie
-use Rattle.near_field.proofs.near.group_of.Reads as reads
-use Rattle.near_field.proofs.near.group_of.Lts as lts
-use Rattle.near_field.proofs.near.is_member.Reads as is-member-reads
-use Rattle.near_field.proofs.near.part.Reads as part-reads
-use Rattle.near_field.proofs.plane.east_of.Reads as east-of-reads
-use Rattle.near_field.proofs.plane.north_of.Reads as north-of-reads
 
 abbrev Inv-loop : tie.InvT-loop
-Inv-loop grid heard best n₀ east₀ north₀ i₀ n east north i = (i ≤ 1600) × (n ≡ howMany (member grid best) i) × (east ≡ sumOf (member grid best) eastOf i) × (north ≡ sumOf (member grid best) northOf i) × (n ≤ i) × (east ≤ 79 * i) × (north ≤ 79 * i)
+Inv-loop grid heard best n₀ east₀ north₀ i₀ n east north i =
+    (i ≤ 1600) × (n ≡ howMany (member grid best) i) × (east ≡ sumOf (member grid best) eastOf i) × (north ≡ sumOf (member grid best) northOf i) ×
+    (n ≤ i) × (east ≤ 79 * i) × (north ≤ 79 * i)
 
 abbrev μ-loop : tie.MeasureT-loop
 μ-loop grid heard best n₀ east₀ north₀ i₀ n east north i = 1600 - i
@@ -86,11 +70,26 @@ loop-less c = search needs
 
 -- src/near.rt:153:5
 loop-again : tie.Need-loop-again Inv-loop μ-loop
-loop-again c = let l = c .before .before .before .before .before .before .before .loop in let s = c .before .before .before .before .before .before .before .before .args in let p = member (s .grid .now) (s .best) in (search needs, sum-step p (λ (j : ℕ). 1) (l .n) (c .before .before .before .before .part .result) (l .i) (l .inv .1) (cc), sum-step p eastOf (l .east) (c .before .before .part2 .result) (l .i) (l .inv .2) (cc), sum-step p northOf (l .north) (c .part3 .result) (l .i) (l .inv .3) (cc), omega arith, omega arith, omega arith)
+loop-again c =
+    let l = c .before .before .before .before .before .before .before .loop in
+    let s = c .before .before .before .before .before .before .before .before .args in
+    let p = member (s .grid .now) (s .best) in (
+      search needs,
+      sum-step p (λ (j : ℕ). 1) (l .n) (c .before .before .before .before .part .result) (l .i) (l .inv .1) (cc),
+      sum-step p eastOf
+          (l .east) (c .before .before .part2 .result) (l .i) (l .inv .2) (cc),
+      sum-step p northOf (l .north) (c .part3 .result) (l .i) (l .inv .3) (cc),
+      omega arith,
+      omega arith,
+      omega arith,
+    )
 
 -- src/near.rt:145:1
 returns : tie.Need-returns Inv-loop μ-loop
-returns c = let l = c .before .loop in let e : l .i ≡ 1600 = omega arith in (rw e at (l .inv .1), rw e at (l .inv .2), rw e at (l .inv .3), omega arith, omega arith, omega arith)
+returns c =
+    let l = c .before .loop in
+    let e : l .i ≡ 1600 = omega arith in
+    (rw e at (l .inv .1), rw e at (l .inv .2), rw e at (l .inv .3), omega arith, omega arith, omega arith)
 
 pub group-of-spec : {M : Type 1} → statement M
 group-of-spec =

@@ -1,3 +1,4 @@
+-- With fewer than three cells the third is missing; else it is under 6 half cells away where three are at most √35 away (`hole-many`).
 use Rattle.near_field.proofs.Found.{hole-many, hole-few}
 use Prim.Native.Nat.{_/_}
 use borrow.Author.Needs.{needs}
@@ -18,7 +19,9 @@ cells-within-requires c κs = search needs
 
 -- src/near.rt:61:1
 returns-2 : tie.Need-returns-2
-returns-2 c = hole-many (c .before .before .before .args .grid .now) _ _ (c .before .before .occupied-cells .ensures .0) (c .before .if1 .left) (c .cells-within .ensures .0)
+returns-2 c =
+    let c3 = c .before .before .before in
+    hole-many (c3 .args .grid .now) _ _ (c .before .before .occupied-cells .ensures .0) (c .before .if1 .left) (c .cells-within .ensures .0)
 
 pub no-hole-spec : {M : Type 1} → statement M
 no-hole-spec = tie.close (tie.spec occupied-cells-requires returns cells-within-requires returns-2)

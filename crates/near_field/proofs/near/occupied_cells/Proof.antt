@@ -1,3 +1,4 @@
+-- After i cells n is how many of the first i are occupied (`sum-step`).
 use Rattle.near_field.specs.Marks.{occ}
 use Rattle.cells.proofs.Passes.{sum-step, pass-none}
 use Rattle.cells.specs.Passes.{howMany}
@@ -48,7 +49,13 @@ loop-less c = search needs
 
 -- src/near.rt:29:5
 loop-again : tie.Need-loop-again Inv-loop μ-loop
-loop-again c = let l = c .before .before .before .before .loop in (search needs, sum-step (occ (c .before .before .before .before .before .args .grid .now)) (λ (j : ℕ). 1) (l .n) (c .part .result) (l .i) (l .inv .1) (cc), omega arith)
+loop-again c =
+    let l = c .before .before .before .before .loop in (
+      search needs,
+      sum-step (occ (c .before .before .before .before .before .args .grid .now)) (λ (j : ℕ). 1) (l .n) (c .part .result) (l .i)
+          (l .inv .1) (cc),
+      omega arith,
+    )
 
 -- src/near.rt:24:1
 returns : tie.Need-returns Inv-loop μ-loop

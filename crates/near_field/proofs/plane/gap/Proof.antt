@@ -1,3 +1,4 @@
+-- The greater less the smaller is how far they are apart; a square of at most 2^20 fits.
 use Rattle.near_field.proofs.Squares.{small-square, apart-below, apart-above}
 use Prim.Native.Nat.{_-_}
 use native.Mathlib.Omega.{arith}

@@ -1,3 +1,4 @@
+-- At least one step.
 use Rattle.near_field.proofs.Squares.{said-none, said-some}
 use Rattle.near_field.specs.Plane.{said}
 use borrow.Author.Needs.{needs}

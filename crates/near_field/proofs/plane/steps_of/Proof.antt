@@ -1,3 +1,4 @@
+-- No k below the loop's holds num under the square; the first that does is `steps` (`first-unique`).
 use Rattle.near_field.proofs.Squares.{odd-small, odd-square}
 use Rattle.near_field.specs.Plane.{square, steps}
 use Rattle.cells.proofs.Passes.{first-unique}
@@ -45,7 +46,10 @@ mul-if1 c = let s = c .before .before .args in omega (arith, odd-square (c .befo
 -- src/plane.rt:66:13
 returns : tie.Need-returns Inv-loop μ-loop
 unfolding steps square
-returns c = let s = c .before .before .before .args in let l = c .before .before .loop in (sym (first-unique _ 160 (l .k) (omega arith) (l .inv .1) (λ h. lt-ltb (s .num) _ (c .if1 .taken))), omega arith)
+returns c =
+    let s = c .before .before .before .args in
+    let l = c .before .before .loop in
+    (sym (first-unique _ 160 (l .k) (omega arith) (l .inv .1) (λ h. lt-ltb (s .num) _ (c .if1 .taken))), omega arith)
 
 -- src/plane.rt:68:9
 add-k : tie.Need-add-k Inv-loop μ-loop
@@ -58,7 +62,11 @@ loop-less c = search needs
 -- src/plane.rt:63:5
 loop-again : tie.Need-loop-again Inv-loop μ-loop
 unfolding square
-loop-again c = let s = c .before .before .before .args in let l = c .before .before .loop in (search needs, below-more _ (l .k) (l .inv .1) (le-ltb (s .num) _ (c .if1 .left)))
+loop-again c =
+    let c3 = c .before .before .before in
+    let s = c3 .args in
+    let l = c .before .before .loop in
+    (search needs, below-more _ (l .k) (l .inv .1) (le-ltb (s .num) _ (c .if1 .left)))
 
 -- src/plane.rt:58:1
 returns-2 : tie.Need-returns-2 Inv-loop μ-loop

@@ -1,32 +1,20 @@
-use Rattle.near_field.proofs.Marked.{cells-step, bins-step, cells-none, bins-none, cell-far, cell-near}
-use Rattle.near_field.proofs.Window.{marks-start, marks-end, cells-start, cells-end, bits-skip, bits-step, bits-start, bits-end, ones-grow, row-count}
-use Rattle.near_field.proofs.Rows.{north-marks, south-marks, level-marks, west-off, east-off, within, cut-mono, cut-start, cut-end}
-use Rattle.near_field.proofs.Squares.{arm}
-use Rattle.near_field.specs.Counts.{countsOf, under, cutAt}
-use Rattle.near_field.specs.Marks.{occ, some, near, marksOf, bitsIn, aroundOf, sectorsIn, cellIn, binIn, outsideOf}
-use Rattle.near_field.specs.Plane.{eastOf, northOf, fromSite, sectorFrom, square, apart}
-use Rattle.cells.proofs.Passes.{pass-none, sum-step, table-fill, table-full}
-use Rattle.cells.specs.Passes.{pass, howMany, table}
-use lib.ListN.{getD, set, take, replicate, length}
-use lib.Dec.{leb, ltb}
-use lib.Count.{ones}
-use borrow.Author.Tests.{lt-ltb, le-ltb, le-leb, lt-leb, not-true, not-false}
+-- After a row n counts the cells of the rows so far; the rows left out hold none within 25 km.
+use Rattle.near_field.proofs.Window.{cells-start, cells-end}
+use Rattle.near_field.specs.Counts.{countsOf, under}
+use Rattle.near_field.specs.Marks.{near}
+use Rattle.cells.specs.Passes.{howMany}
 use native.Mathlib.Omega.{arith}
-use mathlib.Core.Path.{_≡_, refl, sym, ap, subst, _∙_}
-use mathlib.Core.Bool.{Bool, true, false, cond, _&&_}
+use mathlib.Core.Path.{_≡_, ap, _∙_}
 use mathlib.Core.List.{List}
-use Prim.Native.Nat.{ℕ, _+_, _-_, _*_, _/_, _%_, _≤_, _<_, min}
+use Prim.Native.Nat.{ℕ, _+_, _-_, _*_, _/_, _≤_}
 use borrow.Author.Needs.{needs}
 use Rattle.near_field.proofs.spans.cells_around.Statement.{statement}
 use Rattle.near_field.proofs.spans.cells_around.Tie as tie
-use Rattle.near_field.proofs.spans.cells_around.Reads as reads
-use Rattle.near_field.proofs.spans.cells_around.Lts as lts
-use Rattle.near_field.proofs.plane.less.Reads as less-reads
-use Rattle.near_field.proofs.spans.centres_under.Reads as centres-under-reads
-use Rattle.near_field.proofs.spans.row_cells.Reads as row-cells-reads
 
 abbrev Inv-loop : tie.InvT-loop
-Inv-loop heard x y n₀ row₀ end n row = (y ≤ 2 * row + 11) × (row ≤ end) × (end ≡ under (y + 11)) × ((g : List ℕ) → heard ≡ countsOf g → n ≡ howMany (near g x y) (40 * row)) × (n ≤ 40 * row)
+Inv-loop heard x y n₀ row₀ end n row =
+    (y ≤ 2 * row + 11) × (row ≤ end) × (end ≡ under (y + 11)) × ((g : List ℕ) → heard ≡ countsOf g → n ≡ howMany (near g x y) (40 * row)) ×
+    (n ≤ 40 * row)
 
 abbrev μ-loop : tie.MeasureT-loop
 μ-loop heard x y n₀ row₀ end n row = end - row
@@ -49,7 +37,15 @@ centres-under-requires-2 c κs = search needs
 
 -- src/spans.rt:184:5
 loop-holds : tie.Need-loop-holds Inv-loop μ-loop
-loop-holds c = let s = c .before .before .before in (omega arith, omega arith, c .centres-under2 .ensures .0, λ g eh. cells-start g (s .args .x) (s .args .y) (c .before .centres-under .result) (s .pre .2) (c .before .centres-under .ensures .0 ∙ ap (λ (z : ℕ). under z) (c .before .before .less .ensures .0)), omega arith)
+loop-holds c =
+    let s = c .before .before .before in (
+      omega arith,
+      omega arith,
+      c .centres-under2 .ensures .0,
+      λ g eh. cells-start g (s .args .x) (s .args .y) (c .before .centres-under .result)
+          (s .pre .2) (c .before .centres-under .ensures .0 ∙ ap (λ (z : ℕ). under z) (c .before .before .less .ensures .0)),
+      omega arith,
+    )
 
 -- src/spans.rt:185:14
 row-cells-requires : tie.Need-row-cells-requires Inv-loop μ-loop
@@ -69,11 +65,22 @@ loop-less c = search needs
 
 -- src/spans.rt:184:5
 loop-again : tie.Need-loop-again Inv-loop μ-loop
-loop-again c = let l = c .before .before .loop in (omega arith, omega arith, l .inv .2, λ g eh. ap (λ (z : ℕ). z + c .row-cells .result) (l .inv .3 g eh) ∙ c .row-cells .ensures .0 g eh, omega arith)
+loop-again c =
+    let l = c .before .before .loop in (
+      omega arith,
+      omega arith,
+      l .inv .2,
+      λ g eh. ap (λ (z : ℕ). z + c .row-cells .result) (l .inv .3 g eh) ∙ c .row-cells .ensures .0 g eh,
+      omega arith,
+    )
 
 -- src/spans.rt:177:1
 returns : tie.Need-returns Inv-loop μ-loop
-returns c = let l = c .before .loop in let s = c .before .before .before .before .before in let e : l .row ≡ under (s .args .y + 11) = omega arith in λ g eh. l .inv .3 g eh ∙ cells-end g (s .args .x) (s .args .y) (l .row) (s .pre .2) e
+returns c =
+    let l = c .before .loop in
+    let s = c .before .before .before .before .before in
+    let e : l .row ≡ under (s .args .y + 11) = omega arith in
+    λ g eh. l .inv .3 g eh ∙ cells-end g (s .args .x) (s .args .y) (l .row) (s .pre .2) e
 
 pub cells-around-spec : {M : Type 1} → statement M
 cells-around-spec =

@@ -1,33 +1,19 @@
-use Rattle.near_field.proofs.Window.{marks-start, marks-end, cells-start, cells-end, bits-skip, bits-step, bits-start, bits-end, ones-zero, enough, not-enough, around-is, row-count}
-use Rattle.near_field.proofs.Marked.{cells-step, bins-step, cells-none, bins-none, cell-far, cell-near}
-use Rattle.near_field.proofs.Window.{marks-start, marks-end, cells-start, cells-end, bits-skip, bits-step, bits-start, bits-end, ones-grow, row-count}
-use Rattle.near_field.proofs.Rows.{north-marks, south-marks, level-marks, west-off, east-off, within, cut-mono, cut-start, cut-end}
-use Rattle.near_field.proofs.Squares.{arm}
-use Rattle.near_field.specs.Counts.{countsOf, under, cutAt}
-use Rattle.near_field.specs.Marks.{occ, some, near, marksOf, bitsIn, aroundOf, sectorsIn, cellIn, binIn, outsideOf}
-use Rattle.near_field.specs.Plane.{eastOf, northOf, fromSite, sectorFrom, square, apart}
-use Rattle.cells.proofs.Passes.{pass-none, sum-step, table-fill, table-full}
-use Rattle.cells.specs.Passes.{pass, howMany, table}
-use lib.ListN.{getD, set, take, replicate, length}
-use lib.Dec.{leb, ltb}
+-- As `bits_around`; bits never go (`ones-grow`), so eight before the last row are eight at the end.
+use Rattle.near_field.proofs.Window.{bits-start, bits-end, ones-zero, enough, not-enough}
+use Rattle.near_field.proofs.Window.{bits-start, bits-end}
+use Rattle.near_field.specs.Counts.{under}
+use Rattle.near_field.specs.Marks.{near, bitsIn}
 use lib.Count.{ones}
-use borrow.Author.Tests.{lt-ltb, le-ltb, le-leb, lt-leb, not-true, not-false}
 use native.Mathlib.Omega.{arith}
-use mathlib.Core.Path.{_≡_, refl, sym, ap, subst, _∙_}
-use mathlib.Core.Bool.{Bool, true, false, cond, _&&_}
-use mathlib.Core.List.{List}
-use Prim.Native.Nat.{ℕ, _+_, _-_, _*_, _/_, _%_, _≤_, _<_, min}
+use mathlib.Core.Path.{_≡_, ap, _∙_}
+use Prim.Native.Nat.{ℕ, _+_, _-_, _*_, _/_, _≤_, _<_}
 use borrow.Author.Needs.{needs}
 use Rattle.near_field.proofs.spans.enough_bits.Statement.{statement}
 use Rattle.near_field.proofs.spans.enough_bits.Tie as tie
-use Rattle.near_field.proofs.spans.enough_bits.Reads as reads
-use Rattle.near_field.proofs.spans.enough_bits.Lts as lts
-use Rattle.near_field.proofs.plane.less.Reads as less-reads
-use Rattle.near_field.proofs.spans.centres_under.Reads as centres-under-reads
-use Rattle.near_field.proofs.spans.row_bits.Reads as row-bits-reads
 
 abbrev Inv-loop : tie.InvT-loop
-Inv-loop grid x y bits₀ row₀ end bits row = (y ≤ 2 * row + 11) × (row ≤ end) × (end ≡ under (y + 11)) × (bits ≡ bitsIn (near grid x y) grid (40 * row)) × (ones bits < 8)
+Inv-loop grid x y bits₀ row₀ end bits row =
+    (y ≤ 2 * row + 11) × (row ≤ end) × (end ≡ under (y + 11)) × (bits ≡ bitsIn (near grid x y) grid (40 * row)) × (ones bits < 8)
 
 abbrev μ-loop : tie.MeasureT-loop
 μ-loop grid x y bits₀ row₀ end bits row = end - row
@@ -50,7 +36,16 @@ centres-under-requires-2 c κs = search needs
 
 -- src/spans.rt:242:5
 loop-holds : tie.Need-loop-holds Inv-loop μ-loop
-loop-holds c = let s = c .before .before .before in (omega arith, omega arith, c .centres-under2 .ensures .0, bits-start (s .args .grid .now) (s .args .x) (s .args .y) (c .before .centres-under .result) (s .pre .1) (c .before .centres-under .ensures .0 ∙ ap (λ (z : ℕ). under z) (c .before .before .less .ensures .0)), omega (arith, ones-zero))
+loop-holds c =
+    let s = c .before .before .before in (
+      omega arith,
+      omega arith,
+      c .centres-under2 .ensures .0,
+      bits-start (s .args .grid .now) (s .args .x) (s .args .y)
+          (c .before .centres-under .result) (s .pre .1) (c .before .centres-under .ensures .0 ∙ ap (λ (z : ℕ). under z)
+          (c .before .before .less .ensures .0)),
+      omega (arith, ones-zero),
+    )
 
 -- src/spans.rt:243:9
 row-bits-requires : tie.Need-row-bits-requires Inv-loop μ-loop
@@ -58,7 +53,11 @@ row-bits-requires c κs = let s = c .before .before .before .before .before in (
 
 -- src/spans.rt:245:13
 returns : tie.Need-returns Inv-loop μ-loop
-returns c = let l = c .before .before .before .loop in let s = c .before .before .before .before .before .before .before in enough (near (s .args .grid .now) (s .args .x) (s .args .y)) (s .args .grid .now) (40 * (l .row + 1)) (c .before .row-bits .result) (omega arith) (c .before .row-bits .ensures) (c .if1 .taken)
+returns c =
+    let l = c .before .before .before .loop in
+    let s = c .before .before .before .before .before .before .before in
+    enough (near (s .args .grid .now) (s .args .x) (s .args .y)) (s .args .grid .now) (40 * (l .row + 1)) (c .before .row-bits .result) (omega arith)
+    (c .before .row-bits .ensures) (c .if1 .taken)
 
 -- src/spans.rt:247:9
 add-row : tie.Need-add-row Inv-loop μ-loop
@@ -74,7 +73,12 @@ loop-again c = let l = c .before .before .before .loop in (omega arith, omega ar
 
 -- src/spans.rt:235:1
 returns-2 : tie.Need-returns-2 Inv-loop μ-loop
-returns-2 c = let l = c .before .loop in let s = c .before .before .before .before .before in let e : l .row ≡ under (s .args .y + 11) = omega arith in not-enough (near (s .args .grid .now) (s .args .x) (s .args .y)) (s .args .grid .now) (l .bits) (l .inv .3 ∙ bits-end (s .args .grid .now) (s .args .x) (s .args .y) (l .row) (s .pre .1) e) (l .inv .4)
+returns-2 c =
+    let l = c .before .loop in
+    let s = c .before .before .before .before .before in
+    let e : l .row ≡ under (s .args .y + 11) = omega arith in
+    not-enough (near (s .args .grid .now) (s .args .x) (s .args .y)) (s .args .grid .now) (l .bits)
+    (l .inv .3 ∙ bits-end (s .args .grid .now) (s .args .x) (s .args .y) (l .row) (s .pre .1) e) (l .inv .4)
 
 pub enough-bits-spec : {M : Type 1} → statement M
 enough-bits-spec =

@@ -1,32 +1,20 @@
+-- After i cells the array is the table of the counts before each of the first i + 1 (`table-fill`), and n the last of them.
 use Rattle.near_field.proofs.Counts.{heard-none}
-use Rattle.near_field.proofs.Marked.{cells-step, bins-step, cells-none, bins-none, cell-far, cell-near}
-use Rattle.near_field.proofs.Window.{marks-start, marks-end, cells-start, cells-end, bits-skip, bits-step, bits-start, bits-end, ones-grow, row-count}
-use Rattle.near_field.proofs.Rows.{north-marks, south-marks, level-marks, west-off, east-off, within, cut-mono, cut-start, cut-end}
-use Rattle.near_field.proofs.Squares.{arm}
-use Rattle.near_field.specs.Counts.{countsOf, under, cutAt}
-use Rattle.near_field.specs.Marks.{occ, some, near, marksOf, bitsIn, aroundOf, sectorsIn, cellIn, binIn, outsideOf}
-use Rattle.near_field.specs.Plane.{eastOf, northOf, fromSite, sectorFrom, square, apart}
+use Rattle.near_field.specs.Counts.{countsOf}
+use Rattle.near_field.specs.Marks.{occ}
 use Rattle.cells.proofs.Passes.{pass-none, sum-step, table-fill, table-full}
-use Rattle.cells.specs.Passes.{pass, howMany, table}
-use lib.ListN.{getD, set, take, replicate, length}
-use lib.Dec.{leb, ltb}
-use lib.Count.{ones}
-use borrow.Author.Tests.{lt-ltb, le-ltb, le-leb, lt-leb, not-true, not-false}
+use Rattle.cells.specs.Passes.{howMany, table}
+use lib.ListN.{take, length}
 use native.Mathlib.Omega.{arith}
-use mathlib.Core.Path.{_≡_, refl, sym, ap, subst, _∙_}
-use mathlib.Core.Bool.{Bool, true, false, cond, _&&_}
-use mathlib.Core.List.{List}
-use Prim.Native.Nat.{ℕ, _+_, _-_, _*_, _/_, _%_, _≤_, _<_, min}
+use mathlib.Core.Path.{_≡_, sym}
+use Prim.Native.Nat.{ℕ, _+_, _-_, _/_, _≤_}
 use borrow.Author.Needs.{needs}
 use Rattle.near_field.proofs.spans.heard_before.Statement.{statement}
 use Rattle.near_field.proofs.spans.heard_before.Tie as tie
-use Rattle.near_field.proofs.spans.heard_before.Reads as reads
-use Rattle.near_field.proofs.spans.heard_before.Lts as lts
-use Rattle.cells.proofs.occupied.Reads as occupied-reads
-use Rattle.near_field.proofs.near.part.Reads as part-reads
 
 abbrev Inv-loop : tie.InvT-loop
-Inv-loop grid heard₀ n₀ i₀ heard n i = (i ≤ 1600) × (length heard ≡ 1601) × (n ≡ howMany (occ grid) i) × (n ≤ i) × (take (i + 1) heard ≡ table (λ (j : ℕ). howMany (occ grid) j) (i + 1))
+Inv-loop grid heard₀ n₀ i₀ heard n i =
+    (i ≤ 1600) × (length heard ≡ 1601) × (n ≡ howMany (occ grid) i) × (n ≤ i) × (take (i + 1) heard ≡ table (λ (j : ℕ). howMany (occ grid) j) (i + 1))
 
 abbrev μ-loop : tie.MeasureT-loop
 μ-loop grid heard₀ n₀ i₀ heard n i = 1600 - i
@@ -73,12 +61,25 @@ loop-less c = search needs
 
 -- src/spans.rt:26:5
 loop-again : tie.Need-loop-again Inv-loop μ-loop
-loop-again c = let l = c .before .before .before .before .loop in let g = c .before .before .before .before .before .args .grid .now in let e = sum-step (occ g) (λ (j : ℕ). 1) (l .n) (c .part .result) (l .i) (l .inv .2) (cc) in (search needs, search needs, e, omega arith, table-fill (λ (j : ℕ). howMany (occ g) j) 0 (l .heard) (l .i + 1) (l .n + c .part .result) (omega arith) (l .inv .4) e)
+loop-again c =
+    let l = c .before .before .before .before .loop in
+    let g = c .before .before .before .before .before .args .grid .now in
+    let e = sum-step (occ g) (λ (j : ℕ). 1) (l .n) (c .part .result) (l .i) (l .inv .2) (cc) in (
+      search needs,
+      search needs,
+      e,
+      omega arith,
+      table-fill (λ (j : ℕ). howMany (occ g) j) 0 (l .heard) (l .i + 1) (l .n + c .part .result)
+          (omega arith) (l .inv .4) e,
+    )
 
 -- src/spans.rt:20:1
 returns : tie.Need-returns Inv-loop μ-loop
 unfolding countsOf
-returns c = let l = c .before .loop in let e : l .i ≡ 1600 = omega arith in table-full (λ (j : ℕ). howMany (occ (c .before .before .args .grid .now)) j) 0 (l .heard) 1601 (l .inv .1) (rw e at (l .inv .4))
+returns c =
+    let l = c .before .loop in
+    let e : l .i ≡ 1600 = omega arith in
+    table-full (λ (j : ℕ). howMany (occ (c .before .before .args .grid .now)) j) 0 (l .heard) 1601 (l .inv .1) (rw e at (l .inv .4))
 
 pub heard-before-spec : {M : Type 1} → statement M
 heard-before-spec =

@@ -1,31 +1,11 @@
-use Rattle.near_field.proofs.Rows.{ends}
-use Rattle.near_field.proofs.Marked.{cells-step, bins-step, cells-none, bins-none, cell-far, cell-near}
-use Rattle.near_field.proofs.Window.{marks-start, marks-end, cells-start, cells-end, bits-skip, bits-step, bits-start, bits-end, ones-grow, row-count}
-use Rattle.near_field.proofs.Rows.{north-marks, south-marks, level-marks, west-off, east-off, within, cut-mono, cut-start, cut-end}
-use Rattle.near_field.proofs.Squares.{arm}
-use Rattle.near_field.specs.Counts.{countsOf, under, cutAt}
-use Rattle.near_field.specs.Marks.{occ, some, near, marksOf, bitsIn, aroundOf, sectorsIn, cellIn, binIn, outsideOf}
-use Rattle.near_field.specs.Plane.{eastOf, northOf, fromSite, sectorFrom, square, apart}
-use Rattle.cells.proofs.Passes.{pass-none, sum-step, table-fill, table-full}
-use Rattle.cells.specs.Passes.{pass, howMany, table}
-use lib.ListN.{getD, set, take, replicate, length}
-use lib.Dec.{leb, ltb}
-use lib.Count.{ones}
-use borrow.Author.Tests.{lt-ltb, le-ltb, le-leb, lt-leb, not-true, not-false}
+-- The two spans are those of `levelSpans`, and a law of Rows says what they mark.
+use mathlib.Core.Path.{_≡_, refl, _∙_}
+use Rattle.near_field.proofs.Rows.{levelSpans, level-marks}
 use native.Mathlib.Omega.{arith}
-use mathlib.Core.Path.{_≡_, refl, sym, ap, subst, _∙_}
-use mathlib.Core.Bool.{Bool, true, false, cond, _&&_}
-use mathlib.Core.List.{List}
-use Prim.Native.Nat.{ℕ, _+_, _-_, _*_, _/_, _%_, _≤_, _<_, min}
+use Prim.Native.Nat.{_+_, _*_, _/_}
 use borrow.Author.Needs.{needs}
 use Rattle.near_field.proofs.spans.level_row.Statement.{statement}
 use Rattle.near_field.proofs.spans.level_row.Tie as tie
-use Rattle.near_field.proofs.spans.level_row.Reads as reads
-use Rattle.near_field.proofs.spans.level_row.Lts as lts
-use Rattle.near_field.proofs.plane.less.Reads as less-reads
-use Rattle.near_field.proofs.spans.cut.Reads as cut-reads
-use Rattle.near_field.proofs.spans.reach.Reads as reach-reads
-use Rattle.near_field.proofs.spans.span.Reads as span-reads
 
 -- src/spans.rt:130:9
 reach-requires : tie.Need-reach-requires
@@ -73,7 +53,12 @@ span-requires-2 c κs = search needs
 
 -- src/spans.rt:126:1
 returns : tie.Need-returns
-returns c = λ g eh em. let s = c .before .before .before .before .before .before .before .before in level-marks g (s .args .x) (2 * s .args .row + 1) (s .args .row) 0 (c .before .before .before .before .before .before .before .reach .result) (s .pre .0) (s .pre .1) (omega arith) (c .before .before .before .before .before .before .before .reach .ensures) (s .args .heard .now) eh (omega arith) (s .args .marks) (c .before .before .before .span .result) (c .span2 .result) refl em (ends (s .args .heard .now) (s .args .marks) _ _ _ _ _ 6 (c .before .before .before .before .before .cut .ensures .0 ∙ ap (cutAt (s .args .row)) (c .before .before .before .before .before .before .less .ensures .0)) (c .before .before .before .before .cut2 .ensures .0) (c .before .before .before .span .ensures)) (ends (s .args .heard .now) (c .before .before .before .span .result) _ _ _ _ _ 2 (c .before .before .cut3 .ensures .0) (c .before .cut4 .ensures .0) (c .span2 .ensures))
+returns c =
+    λ g eh em.
+    let s = c .before .before .before .before .before .before .before .before in
+    let h = c .before .before .before .before .before .before .before .reach in
+    let e : c .span2 .result ≡ levelSpans (s .args .heard .now) (s .args .marks) (s .args .row) (s .args .x) (h .result) = cc in
+    e ∙ level-marks g (s .args .x) (2 * s .args .row + 1) (s .args .row) 0 (h .result) (s .pre .0) (s .pre .1) (omega arith) (h .ensures) (s .args .heard .now) eh (omega arith) (s .args .marks) refl em
 
 pub level-row-spec : {M : Type 1} → statement M
 level-row-spec =

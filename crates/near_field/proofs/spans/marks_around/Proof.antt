@@ -1,29 +1,14 @@
-use Rattle.near_field.proofs.Marked.{cells-step, bins-step, cells-none, bins-none, cell-far, cell-near}
-use Rattle.near_field.proofs.Window.{marks-start, marks-end, cells-start, cells-end, bits-skip, bits-step, bits-start, bits-end, ones-grow, row-count}
-use Rattle.near_field.proofs.Rows.{north-marks, south-marks, level-marks, west-off, east-off, within, cut-mono, cut-start, cut-end}
-use Rattle.near_field.proofs.Squares.{arm}
-use Rattle.near_field.specs.Counts.{countsOf, under, cutAt}
-use Rattle.near_field.specs.Marks.{occ, some, near, marksOf, bitsIn, aroundOf, sectorsIn, cellIn, binIn, outsideOf}
-use Rattle.near_field.specs.Plane.{eastOf, northOf, fromSite, sectorFrom, square, apart}
-use Rattle.cells.proofs.Passes.{pass-none, sum-step, table-fill, table-full}
-use Rattle.cells.specs.Passes.{pass, howMany, table}
-use lib.ListN.{getD, set, take, replicate, length}
-use lib.Dec.{leb, ltb}
-use lib.Count.{ones}
-use borrow.Author.Tests.{lt-ltb, le-ltb, le-leb, lt-leb, not-true, not-false}
+-- After a row the marks are those of the rows so far; the rows left out hold no cell within 25 km.
+use Rattle.near_field.proofs.Window.{marks-start, marks-end}
+use Rattle.near_field.specs.Counts.{countsOf, under}
+use Rattle.near_field.specs.Marks.{marksOf}
 use native.Mathlib.Omega.{arith}
-use mathlib.Core.Path.{_≡_, refl, sym, ap, subst, _∙_}
-use mathlib.Core.Bool.{Bool, true, false, cond, _&&_}
+use mathlib.Core.Path.{_≡_, ap, _∙_}
 use mathlib.Core.List.{List}
-use Prim.Native.Nat.{ℕ, _+_, _-_, _*_, _/_, _%_, _≤_, _<_, min}
+use Prim.Native.Nat.{ℕ, _+_, _-_, _*_, _/_, _≤_}
 use borrow.Author.Needs.{needs}
 use Rattle.near_field.proofs.spans.marks_around.Statement.{statement}
 use Rattle.near_field.proofs.spans.marks_around.Tie as tie
-use Rattle.near_field.proofs.spans.marks_around.Reads as reads
-use Rattle.near_field.proofs.spans.marks_around.Lts as lts
-use Rattle.near_field.proofs.plane.less.Reads as less-reads
-use Rattle.near_field.proofs.spans.centres_under.Reads as centres-under-reads
-use Rattle.near_field.proofs.spans.row_marks.Reads as row-marks-reads
 
 abbrev Inv-loop : tie.InvT-loop
 Inv-loop heard x y m₀ row₀ end m row = (y ≤ 2 * row + 11) × (row ≤ end) × (end ≡ under (y + 11)) × ((g : List ℕ) → heard ≡ countsOf g → m ≡ marksOf g x y (40 * row))
@@ -49,7 +34,14 @@ centres-under-requires-2 c κs = search needs
 
 -- src/spans.rt:157:5
 loop-holds : tie.Need-loop-holds Inv-loop μ-loop
-loop-holds c = let s = c .before .before .before in (omega arith, omega arith, c .centres-under2 .ensures .0, λ g eh. marks-start g (s .args .x) (s .args .y) (c .before .centres-under .result) (s .pre .1) (c .before .centres-under .ensures .0 ∙ ap (λ (z : ℕ). under z) (c .before .before .less .ensures .0)))
+loop-holds c =
+    let s = c .before .before .before in (
+      omega arith,
+      omega arith,
+      c .centres-under2 .ensures .0,
+      λ g eh. marks-start g (s .args .x) (s .args .y) (c .before .centres-under .result)
+          (s .pre .1) (c .before .centres-under .ensures .0 ∙ ap (λ (z : ℕ). under z) (c .before .before .less .ensures .0)),
+    )
 
 -- src/spans.rt:158:13
 row-marks-requires : tie.Need-row-marks-requires Inv-loop μ-loop
@@ -69,7 +61,11 @@ loop-again c = let l = c .before .before .loop in (omega arith, omega arith, l .
 
 -- src/spans.rt:150:1
 returns : tie.Need-returns Inv-loop μ-loop
-returns c = let l = c .before .loop in let s = c .before .before .before .before .before in let e : l .row ≡ under (s .args .y + 11) = omega arith in λ g eh. l .inv .3 g eh ∙ marks-end g (s .args .x) (s .args .y) (l .row) (s .pre .1) e
+returns c =
+    let l = c .before .loop in
+    let s = c .before .before .before .before .before in
+    let e : l .row ≡ under (s .args .y + 11) = omega arith in
+    λ g eh. l .inv .3 g eh ∙ marks-end g (s .args .x) (s .args .y) (l .row) (s .pre .1) e
 
 pub marks-around-spec : {M : Type 1} → statement M
 marks-around-spec =

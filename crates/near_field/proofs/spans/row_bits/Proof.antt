@@ -1,34 +1,18 @@
-use Rattle.near_field.proofs.Marked.{cells-step, bins-step, cells-none, bins-none, cell-far, cell-near}
-use Rattle.near_field.proofs.Window.{marks-start, marks-end, cells-start, cells-end, bits-skip, bits-step, bits-start, bits-end, ones-grow, row-count}
-use Rattle.near_field.proofs.Rows.{north-marks, south-marks, level-marks, west-off, east-off, within, cut-mono, cut-start, cut-end}
-use Rattle.near_field.proofs.Squares.{arm}
-use Rattle.near_field.specs.Counts.{countsOf, under, cutAt}
-use Rattle.near_field.specs.Marks.{occ, some, near, marksOf, bitsIn, aroundOf, sectorsIn, cellIn, binIn, outsideOf}
-use Rattle.near_field.specs.Plane.{eastOf, northOf, fromSite, sectorFrom, square, apart}
-use Rattle.cells.proofs.Passes.{pass-none, sum-step, table-fill, table-full}
-use Rattle.cells.specs.Passes.{pass, howMany, table}
-use lib.ListN.{getD, set, take, replicate, length}
-use lib.Dec.{leb, ltb}
-use lib.Count.{ones}
-use borrow.Author.Tests.{lt-ltb, le-ltb, le-leb, lt-leb, not-true, not-false}
+-- West and east of the reach no cell is within 25 km; between, a cell is around the place where it is occupied.
+use Rattle.near_field.proofs.Window.{bits-skip, bits-step}
+use Rattle.near_field.proofs.Rows.{west-off, east-off, within, cut-mono, cut-start, cut-end}
+use Rattle.near_field.specs.Counts.{cutAt}
+use Rattle.near_field.specs.Marks.{near, bitsIn}
 use native.Mathlib.Omega.{arith}
-use mathlib.Core.Path.{_≡_, refl, sym, ap, subst, _∙_}
-use mathlib.Core.Bool.{Bool, true, false, cond, _&&_}
-use mathlib.Core.List.{List}
-use Prim.Native.Nat.{ℕ, _+_, _-_, _*_, _/_, _%_, _≤_, _<_, min}
+use mathlib.Core.Path.{_≡_, refl, sym, ap, _∙_}
+use Prim.Native.Nat.{ℕ, _+_, _-_, _*_, _/_, _≤_}
 use borrow.Author.Needs.{needs}
 use Rattle.near_field.proofs.spans.row_bits.Statement.{statement}
 use Rattle.near_field.proofs.spans.row_bits.Tie as tie
-use Rattle.near_field.proofs.spans.row_bits.Reads as reads
-use Rattle.near_field.proofs.spans.row_bits.Lts as lts
-use Rattle.near_field.proofs.plane.between.Reads as between-reads
-use Rattle.near_field.proofs.plane.less.Reads as less-reads
-use Rattle.near_field.proofs.spans.cut.Reads as cut-reads
-use Rattle.near_field.proofs.spans.or_bits.Reads as or-bits-reads
-use Rattle.near_field.proofs.spans.reach.Reads as reach-reads
 
 abbrev Inv-loop : tie.InvT-loop
-Inv-loop grid bits x y row h out₀ i₀ end out i = (i ≤ end) × (end ≡ cutAt row (x + h + 1)) × (end ≤ 1600) × (cutAt row (x - h) ≤ i) × (out ≡ bitsIn (near grid x y) grid i)
+Inv-loop grid bits x y row h out₀ i₀ end out i =
+    (i ≤ end) × (end ≡ cutAt row (x + h + 1)) × (end ≤ 1600) × (cutAt row (x - h) ≤ i) × (out ≡ bitsIn (near grid x y) grid i)
 
 abbrev μ-loop : tie.MeasureT-loop
 μ-loop grid bits x y row h out₀ i₀ end out i = end - i
@@ -75,7 +59,27 @@ cut-requires-2 c κs = search needs
 
 -- src/spans.rt:211:5
 loop-holds : tie.Need-loop-holds Inv-loop μ-loop
-loop-holds c = let s = c .before .before .before .before .before in let ei : c .before .cut .result ≡ cutAt (s .args .row) (s .args .x - c .before .before .before .reach .result) = c .before .cut .ensures .0 ∙ ap (cutAt (s .args .row)) (c .before .before .less .ensures .0) in (omega (arith, cut-mono (s .args .row) (s .args .x - c .before .before .before .reach .result) (s .args .x + c .before .before .before .reach .result + 1) (omega arith)), c .cut2 .ensures .0, omega arith, omega arith, s .pre .4 ∙ bits-skip (near (s .args .grid .now) (s .args .x) (s .args .y)) (s .args .grid .now) (40 * s .args .row) (cutAt (s .args .row) (s .args .x - c .before .before .before .reach .result)) (cut-start (s .args .row) (s .args .x - c .before .before .before .reach .result)) (west-off (s .args .grid .now) (s .args .x) (s .args .y) (s .args .row) (c .before .before .before .before .between .result) (c .before .before .before .reach .result) (s .pre .0) (s .pre .2) (c .before .before .before .before .between .ensures) (c .before .before .before .reach .ensures)) ∙ ap (λ (k : ℕ). bitsIn (near (s .args .grid .now) (s .args .x) (s .args .y)) (s .args .grid .now) k) (sym ei))
+loop-holds c =
+    let s = c .before .before .before .before .before in
+    let ei : c .before .cut .result ≡ cutAt (s .args .row) (s .args .x - c .before .before .before .reach .result) = c .before .cut .ensures .0 ∙ ap
+    (cutAt (s .args .row)) (c .before .before .less .ensures .0) in (
+      omega (
+        arith,
+        cut-mono (s .args .row) (s .args .x - c .before .before .before .reach .result)
+            (s .args .x + c .before .before .before .reach .result + 1) (omega arith),
+      ),
+      c .cut2 .ensures .0,
+      omega arith,
+      omega arith,
+      s .pre .4 ∙ bits-skip
+          (near (s .args .grid .now) (s .args .x) (s .args .y)) (s .args .grid .now) (40 * s .args .row)
+          (cutAt (s .args .row) (s .args .x - c .before .before .before .reach .result))
+          (cut-start (s .args .row) (s .args .x - c .before .before .before .reach .result))
+          (west-off (s .args .grid .now) (s .args .x) (s .args .y) (s .args .row) (c .before .before .before .before .between .result)
+          (c .before .before .before .reach .result) (s .pre .0) (s .pre .2) (c .before .before .before .before .between .ensures)
+          (c .before .before .before .reach .ensures)) ∙ ap (λ (k : ℕ). bitsIn (near (s .args .grid .now) (s .args .x) (s .args .y)) (s .args .grid .now) k)
+          (sym ei),
+    )
 
 -- src/spans.rt:212:28
 mul-or-bits : tie.Need-mul-or-bits Inv-loop μ-loop
@@ -99,11 +103,35 @@ loop-less c = search needs
 
 -- src/spans.rt:211:5
 loop-again : tie.Need-loop-again Inv-loop μ-loop
-loop-again c = let l = c .before .before .before .loop in let s = c .before .before .before .before .before .before .before .before .before in (omega arith, l .inv .1, l .inv .2, omega arith, bits-step (near (s .args .grid .now) (s .args .x) (s .args .y)) (s .args .grid .now) (l .i) (l .out) _ (c .or-bits .result) (within (s .args .grid .now) (s .args .x) (s .args .y) (s .args .row) (c .before .before .before .before .before .before .before .before .between .result) (c .before .before .before .before .before .before .before .reach .result) (s .pre .0) (s .pre .2) (c .before .before .before .before .before .before .before .before .between .ensures) (c .before .before .before .before .before .before .before .reach .ensures) (l .i) (l .inv .3) (omega arith)) (l .inv .4) refl (c .or-bits .ensures))
+loop-again c =
+    let l = c .before .before .before .loop in
+    let s = c .before .before .before .before .before .before .before .before .before in (
+      omega arith,
+      l .inv .1,
+      l .inv .2,
+      omega arith,
+      bits-step (near (s .args .grid .now) (s .args .x) (s .args .y)) (s .args .grid .now) (l .i)
+          (l .out) _ (c .or-bits .result) (within (s .args .grid .now) (s .args .x) (s .args .y) (s .args .row)
+          (c .before .before .before .before .before .before .before .before .between .result)
+          (c .before .before .before .before .before .before .before .reach .result) (s .pre .0) (s .pre .2)
+          (c .before .before .before .before .before .before .before .before .between .ensures)
+          (c .before .before .before .before .before .before .before .reach .ensures) (l .i) (l .inv .3) (omega arith)) (l .inv .4) refl
+          (c .or-bits .ensures),
+    )
 
 -- src/spans.rt:203:1
 returns : tie.Need-returns Inv-loop μ-loop
-returns c = let l = c .before .loop in let s = c .before .before .before .before .before .before .before in let e : l .i ≡ cutAt (s .args .row) (s .args .x + c .before .before .before .before .before .reach .result + 1) = omega arith in l .inv .4 ∙ ap (λ (k : ℕ). bitsIn (near (s .args .grid .now) (s .args .x) (s .args .y)) (s .args .grid .now) k) e ∙ bits-skip (near (s .args .grid .now) (s .args .x) (s .args .y)) (s .args .grid .now) (cutAt (s .args .row) (s .args .x + c .before .before .before .before .before .reach .result + 1)) (40 * (s .args .row + 1)) (cut-end (s .args .row) (s .args .x + c .before .before .before .before .before .reach .result + 1)) (east-off (s .args .grid .now) (s .args .x) (s .args .y) (s .args .row) (c .before .before .before .before .before .before .between .result) (c .before .before .before .before .before .reach .result) (s .pre .0) (s .pre .2) (c .before .before .before .before .before .before .between .ensures) (c .before .before .before .before .before .reach .ensures))
+returns c =
+    let l = c .before .loop in
+    let s = c .before .before .before .before .before .before .before in
+    let e : l .i ≡ cutAt (s .args .row) (s .args .x + c .before .before .before .before .before .reach .result + 1) = omega arith in
+    l .inv .4 ∙ ap (λ (k : ℕ). bitsIn (near (s .args .grid .now) (s .args .x) (s .args .y)) (s .args .grid .now) k) e ∙ bits-skip
+    (near (s .args .grid .now) (s .args .x) (s .args .y)) (s .args .grid .now)
+    (cutAt (s .args .row) (s .args .x + c .before .before .before .before .before .reach .result + 1)) (40 * (s .args .row + 1))
+    (cut-end (s .args .row) (s .args .x + c .before .before .before .before .before .reach .result + 1))
+    (east-off (s .args .grid .now) (s .args .x) (s .args .y) (s .args .row) (c .before .before .before .before .before .before .between .result)
+    (c .before .before .before .before .before .reach .result) (s .pre .0) (s .pre .2)
+    (c .before .before .before .before .before .before .between .ensures) (c .before .before .before .before .before .reach .ensures))
 
 pub row-bits-spec : {M : Type 1} → statement M
 row-bits-spec =

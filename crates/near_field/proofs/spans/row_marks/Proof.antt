@@ -1,29 +1,11 @@
-use Rattle.near_field.proofs.Marked.{cells-step, bins-step, cells-none, bins-none, cell-far, cell-near}
-use Rattle.near_field.proofs.Window.{marks-start, marks-end, cells-start, cells-end, bits-skip, bits-step, bits-start, bits-end, ones-grow, row-count}
-use Rattle.near_field.proofs.Rows.{north-marks, south-marks, level-marks, west-off, east-off, within, cut-mono, cut-start, cut-end}
-use Rattle.near_field.proofs.Squares.{arm}
-use Rattle.near_field.specs.Counts.{countsOf, under, cutAt}
-use Rattle.near_field.specs.Marks.{occ, some, near, marksOf, bitsIn, aroundOf, sectorsIn, cellIn, binIn, outsideOf}
-use Rattle.near_field.specs.Plane.{eastOf, northOf, fromSite, sectorFrom, square, apart}
-use Rattle.cells.proofs.Passes.{pass-none, sum-step, table-fill, table-full}
-use Rattle.cells.specs.Passes.{pass, howMany, table}
-use lib.ListN.{getD, set, take, replicate, length}
-use lib.Dec.{leb, ltb}
-use lib.Count.{ones}
-use borrow.Author.Tests.{lt-ltb, le-ltb, le-leb, lt-leb, not-true, not-false}
+-- North, south or level, by the row's centre.
+use Rattle.near_field.specs.Marks.{marksOf}
 use native.Mathlib.Omega.{arith}
-use mathlib.Core.Path.{_≡_, refl, sym, ap, subst, _∙_}
-use mathlib.Core.Bool.{Bool, true, false, cond, _&&_}
-use mathlib.Core.List.{List}
-use Prim.Native.Nat.{ℕ, _+_, _-_, _*_, _/_, _%_, _≤_, _<_, min}
+use mathlib.Core.Path.{_≡_, sym, subst}
+use Prim.Native.Nat.{ℕ, _+_, _*_, _/_}
 use borrow.Author.Needs.{needs}
 use Rattle.near_field.proofs.spans.row_marks.Statement.{statement}
 use Rattle.near_field.proofs.spans.row_marks.Tie as tie
-use Rattle.near_field.proofs.spans.row_marks.Reads as reads
-use Rattle.near_field.proofs.spans.row_marks.Lts as lts
-use Rattle.near_field.proofs.spans.level_row.Reads as level-row-reads
-use Rattle.near_field.proofs.spans.north_row.Reads as north-row-reads
-use Rattle.near_field.proofs.spans.south_row.Reads as south-row-reads
 
 -- src/spans.rt:139:19
 cast-cy : tie.Need-cast-cy
@@ -59,7 +41,11 @@ level-row-requires c κs = search needs
 
 -- src/spans.rt:135:1
 returns-3 : tie.Need-returns-3
-returns-3 c = λ g eh em. let s = c .before .before .before .args in let e : 2 * s .row + 1 ≡ s .y = omega arith in subst (λ (z : ℕ). c .level-row .result ≡ marksOf g (s .x) z (40 * (s .row + 1))) e (c .level-row .ensures g eh (subst (λ (z : ℕ). s .marks ≡ marksOf g (s .x) z (40 * s .row)) (sym e) em))
+returns-3 c =
+    λ g eh em. let s = c .before .before .before .args in
+    let e : 2 * s .row + 1 ≡ s .y = omega arith in
+    subst (λ (z : ℕ). c .level-row .result ≡ marksOf g (s .x) z (40 * (s .row + 1))) e
+    (c .level-row .ensures g eh (subst (λ (z : ℕ). s .marks ≡ marksOf g (s .x) z (40 * s .row)) (sym e) em))
 
 pub row-marks-spec : {M : Type 1} → statement M
 row-marks-spec =

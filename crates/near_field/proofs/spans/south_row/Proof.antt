@@ -1,33 +1,11 @@
-use Rattle.near_field.proofs.Rows.{ends}
-use Rattle.near_field.proofs.Marked.{cells-step, bins-step, cells-none, bins-none, cell-far, cell-near}
-use Rattle.near_field.proofs.Window.{marks-start, marks-end, cells-start, cells-end, bits-skip, bits-step, bits-start, bits-end, ones-grow, row-count}
-use Rattle.near_field.proofs.Rows.{north-marks, south-marks, level-marks, west-off, east-off, within, cut-mono, cut-start, cut-end}
-use Rattle.near_field.proofs.Squares.{arm}
-use Rattle.near_field.specs.Counts.{countsOf, under, cutAt}
-use Rattle.near_field.specs.Marks.{occ, some, near, marksOf, bitsIn, aroundOf, sectorsIn, cellIn, binIn, outsideOf}
-use Rattle.near_field.specs.Plane.{eastOf, northOf, fromSite, sectorFrom, square, apart}
-use Rattle.cells.proofs.Passes.{pass-none, sum-step, table-fill, table-full}
-use Rattle.cells.specs.Passes.{pass, howMany, table}
-use lib.ListN.{getD, set, take, replicate, length}
-use lib.Dec.{leb, ltb}
-use lib.Count.{ones}
-use borrow.Author.Tests.{lt-ltb, le-ltb, le-leb, lt-leb, not-true, not-false}
-use native.Mathlib.Omega.{arith}
-use mathlib.Core.Path.{_≡_, refl, sym, ap, subst, _∙_}
-use mathlib.Core.Bool.{Bool, true, false, cond, _&&_}
-use mathlib.Core.List.{List}
-use Prim.Native.Nat.{ℕ, _+_, _-_, _*_, _/_, _%_, _≤_, _<_, min}
+-- The four spans are those of `southSpans`, and a law of Rows says what they mark.
+use mathlib.Core.Path.{ap, _∙_}
+use Prim.Native.Nat.{ℕ, _+_, _-_}
+use Rattle.near_field.specs.Counts.{cutAt}
+use Rattle.near_field.proofs.Rows.{four-spans, south-marks}
 use borrow.Author.Needs.{needs}
 use Rattle.near_field.proofs.spans.south_row.Statement.{statement}
 use Rattle.near_field.proofs.spans.south_row.Tie as tie
-use Rattle.near_field.proofs.spans.south_row.Reads as reads
-use Rattle.near_field.proofs.spans.south_row.Lts as lts
-use Rattle.near_field.proofs.plane.between.Reads as between-reads
-use Rattle.near_field.proofs.plane.less.Reads as less-reads
-use Rattle.near_field.proofs.plane.lesser.Reads as lesser-reads
-use Rattle.near_field.proofs.spans.cut.Reads as cut-reads
-use Rattle.near_field.proofs.spans.reach.Reads as reach-reads
-use Rattle.near_field.proofs.spans.span.Reads as span-reads
 
 -- src/spans.rt:112:33
 cast-between : tie.Need-cast-between
@@ -131,7 +109,23 @@ span-requires-4 c κs = search needs
 
 -- src/spans.rt:108:1
 returns : tie.Need-returns
-returns c = λ g eh em. let s = c .before .before .before .before .before .before .before .before .before .before .before .before .before .before .before in south-marks g (s .args .x) (s .args .y) (s .args .row) (c .before .before .before .before .before .before .before .before .before .before .before .before .before .before .between .result) (c .before .before .before .before .before .before .before .before .before .before .before .before .before .reach .result) (s .pre .0) (s .pre .1) (c .before .before .before .before .before .before .before .before .before .before .before .before .before .before .between .ensures) (c .before .before .before .before .before .before .before .before .before .before .before .before .before .reach .ensures) (s .args .heard .now) eh (s .pre .2) (s .args .marks) (c .before .before .before .span .result) (c .before .before .span2 .result) (c .before .span3 .result) (c .span4 .result) (s .pre .3) em (ends (s .args .heard .now) (s .args .marks) _ _ _ _ _ 5 (c .before .before .before .before .before .before .before .before .before .before .before .cut .ensures .0 ∙ ap (cutAt (s .args .row)) (c .before .before .before .before .before .before .before .before .before .before .before .before .less .ensures .0)) (c .before .before .before .before .before .before .before .before .cut2 .ensures .0 ∙ ap (cutAt (s .args .row)) (c .before .before .before .before .before .before .before .before .before .less2 .ensures .0 ∙ ap (λ (z : ℕ). s .args .x + 1 - z) (c .before .before .before .before .before .before .before .before .before .before .lesser .ensures .0))) (c .before .before .before .span .ensures)) (ends (s .args .heard .now) (c .before .before .before .span .result) _ _ _ _ _ 4 (c .before .before .before .before .before .before .before .before .cut2 .ensures .0 ∙ ap (cutAt (s .args .row)) (c .before .before .before .before .before .before .before .before .before .less2 .ensures .0 ∙ ap (λ (z : ℕ). s .args .x + 1 - z) (c .before .before .before .before .before .before .before .before .before .before .lesser .ensures .0))) (c .before .before .before .before .before .before .before .cut3 .ensures .0) (c .before .before .span2 .ensures)) (ends (s .args .heard .now) (c .before .before .span2 .result) _ _ _ _ _ 3 (c .before .before .before .before .before .before .before .cut3 .ensures .0) (c .before .before .before .before .before .cut4 .ensures .0 ∙ ap (λ (z : ℕ). cutAt (s .args .row) (s .args .x + z + 1)) (c .before .before .before .before .before .before .lesser2 .ensures .0)) (c .before .span3 .ensures)) (ends (s .args .heard .now) (c .before .span3 .result) _ _ _ _ _ 2 (c .before .before .before .before .before .cut4 .ensures .0 ∙ ap (λ (z : ℕ). cutAt (s .args .row) (s .args .x + z + 1)) (c .before .before .before .before .before .before .lesser2 .ensures .0)) (c .before .before .before .before .cut5 .ensures .0) (c .span4 .ensures))
+returns c =
+    λ g eh em.
+    let c4 = c .before .before .before .before in
+    let c7 = c4 .before .before .before in
+    let c10 = c7 .before .before .before in
+    let c13 = c10 .before .before .before in
+    let m = c13 .before .between in
+    let h = c13 .reach in
+    let s = c13 .before .before in
+    four-spans _ _ _ _ _ _ _ _ _ _ _ _ _ _ _ _ _ _ _ _ (c .before .before .before .span .ensures) (c .before .before .span2 .ensures) (c .before .span3 .ensures) (c .span4 .ensures)
+    (c10 .before .cut .ensures .0 ∙ ap (cutAt (s .args .row)) (c10 .before .before .less .ensures .0))
+    (c7 .before .cut2 .ensures .0 ∙ ap (cutAt (s .args .row)) (c7 .before .before .less2 .ensures .0 ∙ ap (λ (z : ℕ). s .args .x + 1 - z) (c10 .lesser .ensures .0)))
+    (c7 .cut3 .ensures .0)
+    (c4 .before .cut4 .ensures .0 ∙ ap (λ (z : ℕ). cutAt (s .args .row) (s .args .x + z + 1)) (c4 .before .before .lesser2 .ensures .0))
+    (c4 .cut5 .ensures .0)
+    ∙ south-marks g (s .args .x) (s .args .y) (s .args .row) (m .result) (h .result) (s .pre .0) (s .pre .1) (m .ensures) (h .ensures)
+    (s .args .heard .now) eh (s .pre .2) (s .args .marks) (s .pre .3) em
 
 pub south-row-spec : {M : Type 1} → statement M
 south-row-spec =
