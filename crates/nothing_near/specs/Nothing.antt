@@ -5,6 +5,7 @@ use mathlib.Core.Bool.{_&&_, cond}
 use mathlib.Core.List.{List, [], _∷_, _++_}
 use lib.Dec.{leb}
 use lib.ListN.{length, getD}
+use Rattle.angles.specs.Sphere as bands
 use Rattle.cells.specs.Cells.{countOf, occupiedWord}
 use Rattle.cells.specs.Passes.{pass}
 use Rattle.view.specs.declared.Far.{Far}
@@ -32,9 +33,9 @@ positionsOf p = p .positions
 unfoldable pub km : ℕ → ℕ
 km n = square (2 * n / 5)
 
--- 01, Ticks, plane and sphere: the last edge of 100, 150, 200, 250, 300, 350, 400, 500, 700 reached
+-- the edges of 01's bands, kilometres
 unfoldable pub edges : List ℕ
-edges = 100 ∷ 150 ∷ 200 ∷ 250 ∷ 300 ∷ 350 ∷ 400 ∷ 500 ∷ 700 ∷ []
+edges = bands.edges
 
 -- 01: a bin's typical is halfway to the next edge, the last 800
 unfoldable pub halfway : List ℕ → List ℕ

@@ -8,6 +8,7 @@ use lib.Dec.{leb}
 use lib.IntN.{pos}
 use lib.Ieee.{Float, nan, binary64, ofInt}
 use lib.ListN.{length, getD}
+use Rattle.angles.specs.Sphere.{edges}
 use Rattle.floats.specs.Horizon.{pastOf}
 use Rattle.floats.specs.Rank.{sorted}
 use Rattle.floats.specs.declared.horizon.Past.{Past}
@@ -20,10 +21,7 @@ use Rattle.sites.specs.Sites.{antenna}
 use Rattle.sites.specs.declared.Site.{Site}
 use Rattle.view.specs.declared.Far.{Far}
 
--- 01, Ticks: the edges of the bands, kilometres; a far bin is 9 × sector + band
-abbrev pub edges : List ℕ
-edges = 100 ∷ 150 ∷ 200 ∷ 250 ∷ 300 ∷ 350 ∷ 400 ∷ 500 ∷ 700 ∷ []
-
+-- the edge of a bin's band, kilometres; a far bin is 9 × sector + band
 unfoldable pub edgeOf : ℕ → Float
 edgeOf bin = ofInt binary64 (pos (getD edges (bin % 9) 0))
 
