@@ -14,6 +14,7 @@ fn main() {
     println!("cargo::rerun-if-env-changed=SITING_RUST_SRC");
     println!("cargo::rerun-if-changed=build.rs");
     println!("cargo::rerun-if-changed=src/reach.rs");
+    println!("cargo::rerun-if-changed=src/relay.rs");
     let out = PathBuf::from(env::var("OUT_DIR").expect("cargo sets OUT_DIR"));
     let here = PathBuf::from(env::var("CARGO_MANIFEST_DIR").expect("cargo sets it"));
     let named = env::var("SITING_RUST_SRC").ok().map(PathBuf::from);
@@ -42,13 +43,15 @@ fn main() {
     }
 }
 
-/// Copies the source as it is, our file beside it, and names both as modules.
+/// Copies the source as it is, our files beside it, and names both as modules.
 fn take(folder: &Path, out: &Path) {
     for file in FILES {
         let text = fs::read(folder.join(file)).expect("the source can be read");
         fs::write(out.join(file), text).expect("OUT_DIR can be written");
     }
     fs::copy("src/reach.rs", out.join("tests.rs")).expect("OUT_DIR can be written");
+    fs::create_dir_all(out.join("tests")).expect("OUT_DIR can be written");
+    fs::copy("src/relay.rs", out.join("tests/relay.rs")).expect("OUT_DIR can be written");
     let modules = "#[path = \"siting.rs\"]\n#[allow(clippy::all, clippy::pedantic, dead_code)]\npub mod siting;\n\
                    #[path = \"bounded.rs\"]\n#[allow(clippy::all, clippy::pedantic, dead_code)]\npub mod bounded;\n";
     fs::write(out.join("original.rs"), modules).expect("OUT_DIR can be written");

@@ -2,4 +2,3 @@
 pub mod Known
 pub mod Passes
 pub mod Words
-pub mod Sheet

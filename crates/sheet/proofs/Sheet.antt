@@ -2,6 +2,7 @@
 -- Assumes nothing.
 use mathlib.Core.Path.{_≡_, refl}
 use mathlib.Core.Bool.{true, false}
+use Prim.Native.Nat.{ℕ, _^_, _<_}
 use lib.IntN.{pos, negsuc}
 use lib.Ieee.{binary64, round, mul}
 use Rattle.angles.specs.Ticks.{deg}
@@ -12,6 +13,16 @@ use Rattle.angles.specs.Bearing.{sector}
 use Rattle.floats.specs.Horizon.{horizon, fourTwelve, plusZero}
 use Rattle.floats.specs.Steps.{offOf}
 use Rattle.floats.proofs.Sheet as floats
+use Rattle.cells.specs.Cells.{bucketOf, bitNumber}
+use Rattle.cells.specs.declared.Height.the-variants.{Known, Unknown}
+use Rattle.view.specs.declared.EpochId.the-variants.{Id, Nothing}
+use Rattle.sites.specs.declared.Site.{Site}
+use Rattle.sites.specs.declared.Claimed.the-variants.{At}
+use Rattle.near_field.specs.declared.Judgment.the-variants.{Unjudged, Wrong}
+use Rattle.near_field.specs.declared.Evidence.the-variants.{NothingNear}
+use Rattle.judge.specs.Judging.{judgeOf}
+use Rattle.judge.proofs.Cases.{rowP10, rowNear}
+use Rattle.judge.proofs.Cases as cases
 
 -- ---- P1: 'off 7.4 gives 5; 7.5 gives 10; 0 gives 5.'
 pub p1-seven-four : offOf (round binary64 false 74 10) ≡ 5
@@ -23,7 +34,15 @@ p1-seven-five = floats.p1-high
 pub p1-zero : offOf plusZero ≡ 5
 p1-zero = floats.p1-zero
 
--- ---- P4: 'sector of (1,1), (−1,1), (0,−2): 1, 7, 4.' The pairs are (east, north); `negsuc n` is −(n + 1).
+-- ---- P2: 'feet −1, 499, 500, 127,000, none: 0, 0, 1, 254, 255.' `negsuc n` is −(n + 1).
+pub p2 : (bucketOf (Known (negsuc 0)) ≡ 0) × (bucketOf (Known (pos 499)) ≡ 0) × (bucketOf (Known (pos 500)) ≡ 1) × (bucketOf (Known (pos 127000)) ≡ 254) × (bucketOf Unknown ≡ 255)
+p2 = (refl, refl, refl, refl, refl)
+
+-- ---- P3: 'address 0, 1, 2: bits 0, 9, 3.'
+pub p3 : (bitNumber 0 ≡ 0) × (bitNumber 1 ≡ 9) × (bitNumber 2 ≡ 3)
+p3 = (refl, refl, refl)
+
+-- ---- P4: 'sector of (1,1), (−1,1), (0,−2): 1, 7, 4.' The pairs are (east, north).
 pub p4-north-east : sector (pos 1) (pos 1) ≡ 1
 unfolding sector
 p4-north-east = refl
@@ -52,6 +71,21 @@ p5-far = (refl, refl)
 -- ---- P8: '`horizon_km`(−5, 4) is twice the float 4.12.'
 pub p8 : horizon floats.minus-five floats.four ≡ mul binary64 floats.two fourTwelve
 p8 = floats.p8
+
+-- ---- P10: '60 positions, no altitude, bin 0 only, 15 aircraft: Wrong 125, NothingNear; 59, or 14 aircraft: Unjudged.'
+-- For every site and any aircraft bits; `rowP10 n bits` has n positions without altitude in far bin 0 of the even half, whose id is 0, and now_ms is 0.
+pub p10 : (site : Site) (bits : ℕ) → bits < 2 ^ 16 → judgeOf (At site) (Id 0) Nothing (rowP10 60 bits) 0 15 ≡ Wrong 125 NothingNear
+p10 = cases.p10
+
+pub p10-59 : (site : Site) (bits : ℕ) → bits < 2 ^ 16 → judgeOf (At site) (Id 0) Nothing (rowP10 59 bits) 0 15 ≡ Unjudged
+p10-59 = cases.p10-59
+
+pub p10-14 : (site : Site) (bits : ℕ) → judgeOf (At site) (Id 0) Nothing (rowP10 60 bits) 0 14 ≡ Unjudged
+p10-14 = cases.p10-14
+
+-- ---- 01, 'Plausible errors': '15 aircraft, no altitudes, 255 positions in cell (e, n) = (1,1), one in (1,3), one in bin 0 give Wrong by 5.'
+pub near-not-far : (site : Site) (bits : ℕ) → bits < 2 ^ 16 → judgeOf (At site) (Id 0) Nothing (rowNear bits) 0 15 ≡ Wrong 5 NothingNear
+near-not-far = cases.near-not-far
 
 -- ---- Not of 01's sheet: at exactly 45 degrees sine and cosine have each their own series, and differ.
 pub sine-45 : sine (pos (deg 45)) ≡ pos 759250124

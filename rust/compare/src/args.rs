@@ -3,7 +3,9 @@
 use crate::report::unhex;
 
 /// The names of the checks, in the order in which they run.
-pub const CHECKS: [&str; 6] = ["place", "coverage", "same", "horizon", "range", "judge"];
+pub const CHECKS: [&str; 7] = [
+    "place", "coverage", "same", "horizon", "range", "judge", "lists",
+];
 
 /// What the command line asks for.
 #[derive(Debug, PartialEq)]
@@ -14,24 +16,40 @@ pub struct Args {
     pub count: u64,
     /// Judgings aimed at each branch, at least.
     pub judgings: u64,
+    /// Calls of the lists, at least.
+    pub calls: u64,
     /// The checks to run.
     pub only: Vec<String>,
     /// A skipped check counts as failed.
     pub all: bool,
     /// One input to show in place of the checks: a check's name and its floats.
     pub input: Option<(String, Vec<f64>)>,
+    /// A file to write the original's answers to in place of the checks.
+    pub write_vectors: Option<String>,
+    /// A list of calls to answer by the whole numbers, in place of the checks; `-` is standard
+    /// input.
+    pub replay: Option<String>,
+    /// A folder to write the stored lists into, in place of the checks.
+    pub store: Option<String>,
 }
 
 /// How it is called.
 pub const USAGE: &str =
-    "compare [--seed N] [--count N] [--judgings N] [--only CHECK,CHECK..] [--all]
+    "compare [--seed N] [--count N] [--judgings N] [--calls N] [--only CHECK,CHECK..] [--all]
         compare --input place|same|horizon BITS..
+        compare [--seed N] --write-vectors FILE
+        compare --replay FILE
+        compare --store FOLDER
   --seed N       seed of the random inputs (1)
   --count N      inputs of each of place, same, horizon and range (1,000,000)
   --judgings N   judgings that reach each branch, at least (1,000)
-  --only LIST    of place, coverage, same, horizon, range, judge
+  --calls N      calls in the lists, at least (250,000)
+  --only LIST    of place, coverage, same, horizon, range, judge, lists
   --all          a check that is skipped counts as failed
-  --input ..     shows both answers to one input, its floats as 16 hex digits each, as a failure prints them";
+  --input ..     shows both answers to one input, its floats as 16 hex digits each, as a failure prints them
+  --write-vectors FILE   writes the list of the original's answers that the program `vectors` replays
+  --replay FILE  answers a list of calls by the document's whole numbers (- is standard input)
+  --store FOLDER writes the stored lists, NAME.txt, and the original's answers to them, NAME.out";
 
 /// Reads the command line; the error says what is wrong with it.
 pub fn parse(words: impl Iterator<Item = String>) -> Result<Args, String> {
@@ -39,9 +57,13 @@ pub fn parse(words: impl Iterator<Item = String>) -> Result<Args, String> {
         seed: 1,
         count: 1_000_000,
         judgings: 1_000,
+        calls: 250_000,
         only: CHECKS.map(String::from).to_vec(),
         all: false,
         input: None,
+        write_vectors: None,
+        replay: None,
+        store: None,
     };
     let mut words = words;
     while let Some(word) = words.next() {
@@ -59,6 +81,10 @@ pub fn parse(words: impl Iterator<Item = String>) -> Result<Args, String> {
             "--seed" => args.seed = number()?,
             "--count" => args.count = number()?,
             "--judgings" => args.judgings = number()?,
+            "--write-vectors" => args.write_vectors = Some(value),
+            "--calls" => args.calls = number()?,
+            "--replay" => args.replay = Some(value),
+            "--store" => args.store = Some(value),
             "--input" => {
                 let bits: Option<Vec<f64>> = words.by_ref().map(|word| unhex(&word)).collect();
                 let floats = match value.as_str() {

@@ -8,7 +8,7 @@ use crate::report::{Failures, Outcome, Progress, hex};
 use crate::rng::Rng;
 
 /// Heights that are easy to get wrong.
-const SPECIAL: [f64; 16] = [
+pub const SPECIAL: [f64; 16] = [
     0.0,
     -0.0,
     1.0,
@@ -28,10 +28,10 @@ const SPECIAL: [f64; 16] = [
 ];
 
 /// A way of making one height.
-type Maker = fn(&mut Rng) -> f64;
+pub type Maker = fn(&mut Rng) -> f64;
 
 /// The ways, with the names that are printed.
-const WAYS: [(&str, Maker); 7] = [
+pub const WAYS: [(&str, Maker); 7] = [
     ("heights in metres", |rng| rng.float(-100.0, 40_000.0)),
     ("an antenna's height, as judged", |rng| {
         rng.int(-50, 9_000).max(0) as f64 + 100.0

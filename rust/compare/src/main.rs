@@ -8,13 +8,22 @@ mod excuses;
 mod fields;
 mod horizon;
 mod judge;
+mod lists;
+mod log;
 mod model;
 mod place;
+mod program;
 mod report;
 mod rng;
 mod same;
+mod script;
+mod soups;
 mod sphere;
+mod stored;
+mod text;
 mod ticks;
+mod vectors;
+mod watch;
 
 use std::process::ExitCode;
 
@@ -34,7 +43,8 @@ fn run(name: &str, args: &args::Args, reached: &mut place::Reached) -> Outcome {
         "same" => same::check(seed, count),
         "horizon" => horizon::check(seed, count),
         "range" => place::check_range(seed, count),
-        _ => judge::check(seed, args.judgings),
+        "judge" => judge::check(seed, args.judgings),
+        _ => lists::check(seed, args.calls),
     }
 }
 
@@ -69,6 +79,23 @@ fn show(name: &str, floats: &[f64]) {
     }
 }
 
+/// Writes the original's answers to a file.
+fn write_vectors(seed: u64, file: &str) -> ExitCode {
+    if !oracle::FOUND {
+        return ExitCode::FAILURE;
+    }
+    match vectors::write(seed, file) {
+        Ok(answers) => {
+            println!("{file}: {answers} answers, seed {seed}");
+            ExitCode::SUCCESS
+        }
+        Err(wrong) => {
+            eprintln!("{file}: {wrong}");
+            ExitCode::FAILURE
+        }
+    }
+}
+
 fn main() -> ExitCode {
     let args = match args::parse(std::env::args().skip(1)) {
         Ok(args) => args,
@@ -77,6 +104,9 @@ fn main() -> ExitCode {
             return ExitCode::from(2);
         }
     };
+    if let Some(file) = &args.replay {
+        return stored::replay(file);
+    }
     match oracle::missing() {
         Some(line) => println!("{line}"),
         None => println!("oracle: {}", oracle::FOLDER),
@@ -85,9 +115,15 @@ fn main() -> ExitCode {
         show(name, floats);
         return ExitCode::SUCCESS;
     }
+    if let Some(file) = &args.write_vectors {
+        return write_vectors(args.seed, file);
+    }
+    if let Some(folder) = args.store.as_ref().filter(|_| oracle::FOUND) {
+        return stored::store(folder, args.seed);
+    }
     println!(
-        "seed {}, count {}, judgings {}",
-        args.seed, args.count, args.judgings
+        "seed {}, count {}, judgings {}, calls {}",
+        args.seed, args.count, args.judgings, args.calls
     );
     let (mut passed, mut failed, mut skipped) = (0, 0, 0);
     let mut reached = place::Reached::new();

@@ -109,7 +109,7 @@ pub fn packed(count: u32, low: u32, bits: u32) -> u32 {
 }
 
 /// Whether a half with this id is merged at `now_ms`.
-fn kept(id: Option<u64>, now_ms: u64) -> bool {
+pub fn kept(id: Option<u64>, now_ms: u64) -> bool {
     let current = now_ms / EPOCH_MS;
     id.is_some_and(|id| id == current || current.checked_sub(1) == Some(id))
 }

@@ -41,7 +41,7 @@ impl Reached {
 }
 
 /// The middle of a place, seen from a site.
-fn middle(site: Degrees, place: u16) -> Degrees {
+pub fn middle(site: Degrees, place: u16) -> Degrees {
     if place < GRID_CELLS {
         let km = |line: u16| 5.0 * f64::from(line) - 97.5;
         on_plane(site, km(place % 40), km(place / 40))

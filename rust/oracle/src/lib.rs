@@ -24,6 +24,47 @@ pub struct Held {
 /// 3 (NothingNear).
 pub type Number = u32;
 
+/// A receiver's key.
+pub type Key = [u8; 32];
+
+/// A claimed site.
+#[derive(Clone, Copy, Debug, PartialEq)]
+pub struct Claim {
+    pub at: Degrees,
+    pub alt_m: Option<i32>,
+}
+
+/// A row's run of judgments: the last (0 Unjudged, 1 Fits, 2 Wrong), both counts, the distance
+/// held, and whether the site moved since.
+#[derive(Clone, Copy, Debug, Default, PartialEq, Eq)]
+pub struct Run {
+    pub last: u8,
+    pub wrongs: u8,
+    pub others: u8,
+    pub off_km: Option<u32>,
+    pub moved: bool,
+}
+
+/// What a check says.
+#[derive(Clone, Copy, Debug, PartialEq, Eq)]
+pub enum State {
+    Unjudged,
+    Fits,
+    Wrong(u32),
+}
+
+/// What the original holds of a receiver, its cells aside.
+#[derive(Clone, Copy, Debug, PartialEq)]
+pub struct Seen {
+    pub key: Key,
+    /// Its slot's number, where that can be told.
+    pub number: Option<u32>,
+    pub site: Option<Claim>,
+    pub generation: u32,
+    pub ids: [Option<u64>; 2],
+    pub run: Option<Run>,
+}
+
 /// The folder of the original, or the one in which it was looked for.
 pub const FOLDER: &str = include!(concat!(env!("OUT_DIR"), "/folder.rs"));
 
@@ -52,6 +93,26 @@ pub struct Counter {
 pub struct Row {
     #[cfg(original)]
     heard: siting::Heard,
+}
+
+/// The original's three parts joined as the document joins them: a `Bounded` of `Heard` by key,
+/// and the `Verdicts` (`relay.rs`).
+pub struct Relay {
+    #[cfg(original)]
+    rows: bounded::Bounded<tally_wire::PublicKey, siting::Heard>,
+    /// One for each key, which names that key alone in each of its rounds.
+    #[cfg(original)]
+    runs: std::collections::BTreeMap<Key, siting::Verdicts>,
+    /// One for all, which names every row in each round.
+    #[cfg(original)]
+    rounds: siting::Verdicts,
+    /// The keys whose rows were freed since a round in which `rounds` said of them what `runs` did.
+    #[cfg(original)]
+    freed: std::collections::BTreeSet<Key>,
+    /// Where slot 0 lies, once a key was written, and how far apart slots are; no distance where
+    /// rows were taken over, since the slots are then not the table's.
+    #[cfg(original)]
+    slots: (Option<usize>, Option<usize>),
 }
 
 #[cfg(original)]

@@ -1,6 +1,8 @@
 //! Compiled as the original's child module `tests`, so that its private parts are within reach.
 //! The functions are methods of types of the crate, since no one outside names this module.
 
+mod relay;
+
 use super::*;
 use crate::{CELLS, Counter, Degrees, HALF, Held, Number, Original, Row};
 
@@ -71,6 +73,16 @@ impl Original {
         place as u16
     }
 
+    /// The altitude bucket of feet.
+    pub fn bucket(feet: Option<i32>) -> u8 {
+        bucket(feet)
+    }
+
+    /// The bit that an aircraft's address is kept as.
+    pub fn aircraft_bit(address: u32) -> u16 {
+        aircraft_bit(address)
+    }
+
     /// The radio horizon, kilometres.
     #[inline(never)]
     pub fn horizon_km(antenna_m: f64, aircraft_m: f64) -> f64 {
@@ -118,24 +130,62 @@ impl Counter {
     }
 }
 
+/// The epochs of a row that holds these cells. A half without an id is none, as in the original,
+/// which has no cells without an id.
+fn epochs(ids: [Option<u64>; 2], cells: &[u32; CELLS]) -> [Option<Epoch>; 2] {
+    let half = |k: usize| {
+        let id = ids[k]?;
+        let words = &cells[k * HALF..(k + 1) * HALF];
+        let mut epoch = Epoch::new(id);
+        let grid: Box<[Cell]> = words[..GRID_CELLS].iter().copied().map(unpacked).collect();
+        // An empty grid is as good as none, and the original makes it late.
+        if grid.iter().any(|cell| *cell != Cell::EMPTY) {
+            epoch.grid = Some(grid);
+        }
+        for (bin, word) in epoch.far.iter_mut().zip(&words[GRID_CELLS..]) {
+            *bin = unpacked(*word);
+        }
+        Some(epoch)
+    };
+    [half(0), half(1)]
+}
+
+/// A judgment as a number.
+fn number(judgment: Judgment) -> Number {
+    match judgment {
+        Judgment::Unjudged => 0,
+        Judgment::Fits => 1,
+        Judgment::Wrong { off_km, by } => {
+            let by = match by {
+                Evidence::Horizon => 1,
+                Evidence::NearField => 2,
+                Evidence::NothingNear => 3,
+            };
+            4 * off_km + by
+        }
+    }
+}
+
+/// The judgment of a number.
+fn judgment(number: Number) -> Judgment {
+    let by = match number % 4 {
+        1 => Evidence::Horizon,
+        2 => Evidence::NearField,
+        _ => Evidence::NothingNear,
+    };
+    match number {
+        0 => Judgment::Unjudged,
+        1 => Judgment::Fits,
+        _ => Judgment::Wrong {
+            off_km: number / 4,
+            by,
+        },
+    }
+}
+
 impl Row {
-    /// A row that holds these cells. A half without an id is none, as in the original, which has
-    /// no cells without an id.
+    /// A row that holds these cells.
     pub fn new(held: &Held, cells: &[u32; CELLS]) -> Self {
-        let half = |k: usize| {
-            let id = held.ids[k]?;
-            let words = &cells[k * HALF..(k + 1) * HALF];
-            let mut epoch = Epoch::new(id);
-            let grid: Box<[Cell]> = words[..GRID_CELLS].iter().copied().map(unpacked).collect();
-            // An empty grid is as good as none, and the original makes it late.
-            if grid.iter().any(|cell| *cell != Cell::EMPTY) {
-                epoch.grid = Some(grid);
-            }
-            for (bin, word) in epoch.far.iter_mut().zip(&words[GRID_CELLS..]) {
-                *bin = unpacked(*word);
-            }
-            Some(epoch)
-        };
         let heard = Heard {
             site: held.site.map(|alt_m| Site {
                 lat: 0.0,
@@ -143,7 +193,7 @@ impl Row {
                 alt_m,
             }),
             generation: 0,
-            epochs: [half(0), half(1)],
+            epochs: epochs(held.ids, cells),
         };
         Self { heard }
     }
@@ -152,17 +202,6 @@ impl Row {
     #[inline(never)]
     pub fn judge(&self, now_ms: u64, aircraft: u64) -> Number {
         let aircraft = usize::try_from(aircraft).unwrap_or(usize::MAX);
-        match self.heard.judge(now_ms, aircraft) {
-            Judgment::Unjudged => 0,
-            Judgment::Fits => 1,
-            Judgment::Wrong { off_km, by } => {
-                let by = match by {
-                    Evidence::Horizon => 1,
-                    Evidence::NearField => 2,
-                    Evidence::NothingNear => 3,
-                };
-                4 * off_km + by
-            }
-        }
+        number(self.heard.judge(now_ms, aircraft))
     }
 }

@@ -1,0 +1,4 @@
+pub mod Keeps
+pub mod RunLaws
+pub mod SiteLaws
+pub mod RowLaws

@@ -1,0 +1,28 @@
+-- `empty_half` meets its contract: the half's 1,672 cells are emptied, or nothing is done.
+use Rattle.receiver.proofs.SiteLaws.{half-room, half-emptied, half-kept}
+use borrow.Author.Needs.{needs}
+use Rattle.receiver.proofs.site.empty_half.Statement.{statement}
+use Rattle.receiver.proofs.site.empty_half.Tie as tie
+
+-- src/site.rt:244:22
+cast-empty : tie.Need-cast-empty
+cast-empty c = search needs
+
+-- src/site.rt:244:9
+empty-requires : tie.Need-empty-requires
+empty-requires c κs = search (half-room, needs)
+
+-- src/site.rt:239:1
+same-length : tie.Need-same-length
+same-length c = search needs
+
+-- src/site.rt:239:1
+returns : tie.Need-returns
+returns c = search (half-emptied, needs)
+
+-- src/site.rt:239:1
+returns-2 : tie.Need-returns-2
+returns-2 c = search (half-emptied, half-kept, needs)
+
+pub empty-half-spec : {M : Type 1} → statement M
+empty-half-spec = tie.close (tie.spec cast-empty empty-requires same-length returns returns-2)

@@ -1,0 +1,200 @@
+//! Whole lists of calls: our program, the original's parts joined, and the document's whole
+//! numbers, answer by answer and, at intervals and at the end, row by row.
+
+use std::path::PathBuf;
+
+use crate::log::Log;
+use crate::program::{self, Running};
+use crate::report::{Failures, Outcome, Progress};
+use crate::rng::Rng;
+use crate::script::Wants;
+use crate::soups::{MAKERS, Maker};
+use crate::text;
+
+/// A list given to the program.
+struct Given {
+    name: String,
+    text: String,
+    wants: Wants,
+    running: Running,
+}
+
+/// Where a list with a wrong answer is written.
+fn folder() -> PathBuf {
+    concat!(env!("CARGO_MANIFEST_DIR"), "/../target/lists").into()
+}
+
+/// Compares the program's answers; the first that is not the one wanted is said with its line.
+pub fn settle(wants: &[(u32, String)], got: &str) -> Result<(), String> {
+    let mut lines = got.lines();
+    for (line, want) in wants {
+        let got = lines.next().unwrap_or("nothing");
+        if !text::answers(want, got) {
+            return Err(format!("line {line}: `{got}`, wanted `{want}`"));
+        }
+    }
+    match lines.next() {
+        Some(more) => Err(format!("`{more}` after the last answer")),
+        None => Ok(()),
+    }
+}
+
+impl Given {
+    /// Waits for the answers and compares them; a list with a wrong one is written down.
+    fn settle(self, failures: &mut Failures) {
+        let got = self.running.answers();
+        let Err(wrong) = got.and_then(|got| settle(&self.wants, &got)) else {
+            return;
+        };
+        let file = folder().join(format!("{}.txt", self.name));
+        let written =
+            std::fs::create_dir_all(folder()).and_then(|()| std::fs::write(&file, &self.text));
+        let place = match written {
+            Ok(()) => file.display().to_string(),
+            Err(wrong) => format!("not written, {wrong}"),
+        };
+        failures.add(&format!(
+            "lists: {}: {wrong} (the list: {place})",
+            self.name
+        ));
+    }
+}
+
+/// Why the program is not asked: it is not there, or does not know the watch yet; None where it
+/// does. One that fails at the first call is an error.
+fn unasked() -> Result<Option<String>, String> {
+    let path = program::path();
+    if !path.is_file() {
+        let built = "`rt check calls` builds it; SITING_CALLS names another";
+        return Ok(Some(format!("{} is not there ({built})", path.display())));
+    }
+    let answer = program::ask("watch 1\nfresh\n")?;
+    match answer.lines().next().unwrap_or("no answer") {
+        "ok" => Ok(None),
+        unknown if unknown.starts_with("error 1: unknown call") => {
+            Ok(Some(format!("{}: {unknown}", path.display())))
+        }
+        other => Err(format!("{}: `{other}` to fresh", path.display())),
+    }
+}
+
+/// Makes one list; its text and the answers wanted.
+pub fn made(seed: u64, name: &str, maker: Maker, log: &mut Log) -> (String, Wants) {
+    let mut rng = Rng::new(seed, name);
+    let mut script = maker(&mut rng, log);
+    script.look();
+    script.done()
+}
+
+/// Lists until `calls` calls were made.
+pub fn check(seed: u64, calls: u64) -> Outcome {
+    let program = match unasked() {
+        Ok(why) => why,
+        Err(wrong) => {
+            println!("lists: {wrong}");
+            return Outcome::Failed;
+        }
+    };
+    if let Some(why) = &program {
+        println!("lists: our program is not asked: {why}");
+    }
+    let mut progress = Progress::new("lists", calls);
+    let mut log = Log::new(4_000);
+    log.empty =
+        program.is_none() && program::ask("lend 0 0\ncheck 1\n") == Ok("no 1\n".to_string());
+    let mut given: Option<Given> = None;
+    let mut made_by = MAKERS.map(|(name, _)| (name, 0, 0));
+    let mut lists = 0;
+    while log.calls < calls || lists < 2 * MAKERS.len() as u64 {
+        let way = lists as usize % MAKERS.len();
+        let name = format!("list-{seed}-{lists}");
+        let (before, wrong) = (log.calls, log.failures.count);
+        let (text, wants) = made(seed, &name, MAKERS[way].1, &mut log);
+        if log.failures.count > wrong {
+            println!("  in {name}, {}", MAKERS[way].0);
+        }
+        made_by[way].1 += 1;
+        made_by[way].2 += log.calls - before;
+        lists += 1;
+        // The program works on the last list while the next one is made.
+        if let Some(given) = given.take() {
+            given.settle(&mut log.failures);
+        }
+        if program.is_none() {
+            match program::start(text.clone()) {
+                Ok(running) => {
+                    given = Some(Given {
+                        name,
+                        text,
+                        wants,
+                        running,
+                    });
+                }
+                Err(wrong) => log.failures.add(&format!("lists: {wrong}")),
+            }
+        }
+        progress.at(log.calls / 1_024 * 1_024);
+        if log.failures.count > 20 {
+            break;
+        }
+    }
+    if let Some(given) = given {
+        given.settle(&mut log.failures);
+    }
+    log.say(&made_by, progress.seconds());
+    match log.outcome() {
+        Outcome::Passed if program.is_some() => {
+            println!("  only the original and the whole numbers were compared: lists skipped");
+            Outcome::Skipped
+        }
+        outcome => outcome,
+    }
+}
+
+#[cfg(test)]
+mod tests {
+    use super::*;
+    use crate::script::Script;
+    use crate::watch::{Answer, Call};
+
+    /// Each way's list, read back from its text, has the answers that were wanted; one answer
+    /// changed, left out or added is seen.
+    #[test]
+    fn lists_come_back_from_their_text() {
+        if !oracle::FOUND {
+            return;
+        }
+        let mut log = Log::new(1_000);
+        for (name, maker) in MAKERS {
+            let (list, wants) = made(11, name, maker, &mut log);
+            let got = text::replay(&list);
+            assert_eq!(settle(&wants, &got), Ok(()), "{name}");
+            let last = wants.len() - 1;
+            let lines: Vec<&str> = got.lines().collect();
+            assert!(settle(&wants, &lines[..last].join("\n")).is_err());
+            assert!(settle(&wants[..last], &got).is_err());
+            let mut other = wants;
+            other[last / 2].1 += "1";
+            assert!(settle(&other, &got).is_err());
+        }
+        assert!(matches!(log.outcome(), Outcome::Passed));
+    }
+
+    /// The card is another's affair only while it is protected: beyond, a receiver that was
+    /// pushed out answers 3 where its card would not, and that is no failure.
+    #[test]
+    fn beyond_protection_a_receiver_differs_from_its_card() {
+        let mut log = Log::new(1);
+        let mut script = Script::new(1, &mut log);
+        let (receiver, other) = ([1; 32], [2; 32]);
+        script.guard(receiver);
+        script.call(Call::Claim(receiver, None));
+        script.call(Call::Check(receiver));
+        script.call(Call::Claim(other, None));
+        let pushed = script.call(Call::Check(receiver));
+        assert_eq!(pushed, Some(Answer::No(3)));
+        drop(script);
+        assert!(matches!(log.outcome(), Outcome::Passed));
+        assert_eq!(log.cards, 3);
+    }
+}

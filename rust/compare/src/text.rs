@@ -1,0 +1,519 @@
+//! A list of calls as text, written and read, and its answers; and the list answered by the
+//! document's whole numbers (`compare --replay FILE`), as our program would.
+
+use std::fmt::Write;
+
+use oracle::{Claim, Key, Run, State};
+
+use crate::report::unhex;
+use crate::watch::{Answer, Call, Link, Row, Watch};
+
+/// A key without the zeros in front.
+pub fn short(key: &Key) -> String {
+    let digits = long(key);
+    match digits.trim_start_matches('0') {
+        "" => "0".to_string(),
+        short => short.to_string(),
+    }
+}
+
+/// A key as it is answered.
+fn long(key: &Key) -> String {
+    key.iter()
+        .fold(String::new(), |text, byte| text + &format!("{byte:02x}"))
+}
+
+/// A float: a decimal with a point where at most 15 digits say it exactly, else its bits.
+pub fn real(x: f64) -> String {
+    let text = format!("{x:?}");
+    let digits = text.bytes().filter(u8::is_ascii_digit).count();
+    let plain = text
+        .bytes()
+        .all(|b| b.is_ascii_digit() || b == b'.' || b == b'-');
+    if plain && digits <= 15 && x != 0.0 {
+        text
+    } else {
+        format!("{:016x}", x.to_bits())
+    }
+}
+
+/// Something or a dash.
+fn or_dash<T: ToString>(value: Option<T>) -> String {
+    value.map_or("-".to_string(), |value| value.to_string())
+}
+
+/// What found a site wrong, by the last two bits of a judgment's number.
+const BY: [&str; 4] = ["", "horizon", "nearfield", "nothingnear"];
+
+/// The refusals.
+const NO: [&str; 8] = ["", "no 1", "no 2", "no 3", "no 4", "no 5", "no 6", "no 7"];
+
+impl Call {
+    /// The call's word.
+    pub fn word(&self) -> &'static str {
+        match self {
+            Self::Fresh => "fresh",
+            Self::Claim(..) => "claim",
+            Self::Position { .. } => "position",
+            Self::Judging { .. } => "judging",
+            Self::Check(_) => "check",
+            Self::TakeOut(_) => "takeout",
+            Self::Drop => "drop",
+        }
+    }
+
+    /// The key that it names.
+    pub fn key(&self) -> Option<Key> {
+        match self {
+            Self::Fresh | Self::Drop => None,
+            Self::Claim(key, _)
+            | Self::Position { key, .. }
+            | Self::Judging { key, .. }
+            | Self::Check(key)
+            | Self::TakeOut(key) => Some(*key),
+        }
+    }
+
+    /// The call's line.
+    pub fn line(&self) -> String {
+        let word = self.word();
+        match self {
+            Self::Fresh | Self::Drop => word.to_string(),
+            Self::Claim(key, None) => format!("{word} {} -", short(key)),
+            Self::Claim(key, Some(site)) => format!(
+                "{word} {} {} {} {}",
+                short(key),
+                real(site.at.0),
+                real(site.at.1),
+                or_dash(site.alt_m)
+            ),
+            Self::Position {
+                key,
+                at,
+                feet,
+                address,
+                at_ms,
+            } => format!(
+                "{word} {} {} {} {} {address} {at_ms}",
+                short(key),
+                real(at.0),
+                real(at.1),
+                or_dash(*feet)
+            ),
+            Self::Judging {
+                key,
+                now_ms,
+                aircraft,
+            } => format!("{word} {} {now_ms} {aircraft}", short(key)),
+            Self::Check(key) | Self::TakeOut(key) => format!("{word} {}", short(key)),
+        }
+    }
+}
+
+impl Answer {
+    /// What kind of answer it is.
+    pub fn kind(&self) -> &'static str {
+        match self {
+            Self::Done | Self::Claimed(_, None) | Self::Freed(_) => "ok",
+            Self::Claimed(_, Some(_)) => "pushes",
+            Self::Judged(0) | Self::Checked(State::Unjudged) => "unjudged",
+            Self::Judged(1) | Self::Checked(State::Fits) => "fits",
+            Self::Judged(number) => BY[*number as usize % 4],
+            Self::Checked(State::Wrong(_)) => "wrong",
+            Self::No(number) => NO[usize::from(*number) % 8],
+        }
+    }
+
+    /// The answer's line.
+    pub fn line(&self) -> String {
+        match self {
+            Self::Done => "ok".to_string(),
+            Self::Claimed(generation, pushed) => {
+                format!("ok {generation} {}", or_dash(pushed.map(|key| long(&key))))
+            }
+            Self::Judged(0) | Self::Checked(State::Unjudged) => "ok unjudged".to_string(),
+            Self::Judged(1) | Self::Checked(State::Fits) => "ok fits".to_string(),
+            Self::Judged(number) => {
+                let by = BY[*number as usize % 4];
+                format!("ok wrong {} {by}", number / 4)
+            }
+            Self::Checked(State::Wrong(off)) => format!("ok wrong {off}"),
+            Self::Freed(key) => format!("ok {}", long(key)),
+            Self::No(number) => format!("no {number}"),
+        }
+    }
+}
+
+/// Whether a line is the answer that is wanted: a key's zeros in front may be left out, and of an
+/// error only the line's number is wanted.
+pub fn answers(want: &str, got: &str) -> bool {
+    if want == got || (want.starts_with("error ") && got.starts_with(want)) {
+        return true;
+    }
+    let (want, got) = (want.rsplit_once(' '), got.rsplit_once(' '));
+    want.zip(got).is_some_and(|(want, got)| {
+        want.0 == got.0
+            && want.1.len() == 64
+            && want.1.trim_start_matches('0') == got.1.trim_start_matches('0')
+    })
+}
+
+/// A watch as the lines that lend it.
+pub fn lend(watch: &Watch) -> String {
+    let mut text = format!("lend {} {}\n", watch.rows.len(), watch.cells.len());
+    for (at, row) in watch.rows.iter().enumerate() {
+        if *row == Row::UNMADE {
+            continue;
+        }
+        let site = row.site.map(|site| {
+            let (lat, lon) = (real(site.at.0), real(site.at.1));
+            format!("{lat},{lon},{}", or_dash(site.alt_m))
+        });
+        let run = row.run.map(|run| {
+            let off = or_dash(run.off_km);
+            let moved = u8::from(run.moved);
+            format!("{},{},{},{off},{moved}", run.last, run.wrongs, run.others)
+        });
+        let _ = writeln!(
+            text,
+            "row {at} {} {} {} {} {} {} {} {}",
+            short(&row.key),
+            or_dash(site),
+            row.generation,
+            or_dash(row.ids[0]),
+            or_dash(row.ids[1]),
+            or_dash(run),
+            or_dash(row.before),
+            or_dash(row.after)
+        );
+    }
+    for (at, word) in watch.cells.iter().enumerate() {
+        if *word != crate::model::EMPTY {
+            let _ = writeln!(text, "cell {at} {word}");
+        }
+    }
+    let [first, last, free] = [watch.first, watch.last, watch.free].map(or_dash);
+    text + &format!("ends {first} {last} {free}\n")
+}
+
+/// The fields of a line, read in turn; a fault says the field's name.
+struct Fields<'a>(std::str::Split<'a, char>);
+
+impl<'a> Fields<'a> {
+    /// The next field.
+    fn text(&mut self, name: &str) -> Result<&'a str, String> {
+        self.0.next().ok_or(format!("{name} missing"))
+    }
+
+    /// A field that `read` understands.
+    fn read<T>(&mut self, name: &str, read: impl Fn(&str) -> Option<T>) -> Result<T, String> {
+        let text = self.text(name)?;
+        read(text).ok_or(format!("{name} is not understood"))
+    }
+
+    /// A number.
+    fn number<T: std::str::FromStr>(&mut self, name: &str) -> Result<T, String> {
+        self.read(name, |text| text.parse().ok())
+    }
+
+    /// A number or a dash.
+    fn maybe<T: std::str::FromStr>(&mut self, name: &str) -> Result<Option<T>, String> {
+        self.read(name, maybe)
+    }
+
+    /// A key.
+    fn key(&mut self) -> Result<Key, String> {
+        self.read("KEY", key)
+    }
+}
+
+/// A value, or none for a dash.
+fn maybe<T: std::str::FromStr>(text: &str) -> Option<Option<T>> {
+    if text == "-" {
+        return Some(None);
+    }
+    text.parse().ok().map(Some)
+}
+
+/// A key of up to 64 hex digits.
+fn key(text: &str) -> Option<Key> {
+    if text.is_empty() || text.len() > 64 || !text.bytes().all(|b| b.is_ascii_hexdigit()) {
+        return None;
+    }
+    let digits = format!("{text:0>64}");
+    let mut key = [0; 32];
+    for (at, byte) in key.iter_mut().enumerate() {
+        *byte = u8::from_str_radix(&digits[2 * at..][..2], 16).ok()?;
+    }
+    Some(key)
+}
+
+/// A float: 16 hex digits, or a decimal with a point.
+fn float(text: &str) -> Option<f64> {
+    unhex(text).or_else(|| text.parse().ok().filter(|_| text.contains('.')))
+}
+
+/// LAT,LON,ALT, or none.
+fn site(text: &str) -> Option<Option<Claim>> {
+    if text == "-" {
+        return Some(None);
+    }
+    let parts: Vec<&str> = text.split(',').collect();
+    let [lat, lon, alt] = parts[..] else {
+        return None;
+    };
+    let at = (float(lat)?, float(lon)?);
+    let alt_m = maybe(alt)?;
+    Some(Some(Claim { at, alt_m }))
+}
+
+/// LAST,WRONGS,OTHERS,DISTANCE,MOVED, or none.
+fn run(text: &str) -> Option<Option<Run>> {
+    if text == "-" {
+        return Some(None);
+    }
+    let parts: Vec<&str> = text.split(',').collect();
+    let [last, wrongs, others, off, moved] = parts[..] else {
+        return None;
+    };
+    Some(Some(Run {
+        last: last.parse().ok().filter(|last| *last <= 2)?,
+        wrongs: wrongs.parse().ok()?,
+        others: others.parse().ok()?,
+        off_km: maybe(off)?,
+        moved: moved.parse::<u8>().ok().filter(|moved| *moved <= 1)? == 1,
+    }))
+}
+
+/// What a line asks for.
+enum Line {
+    Nothing,
+    Call(Call),
+    Digest,
+    Watch(usize),
+    Lend(usize, usize),
+    Row(usize, Row),
+    Cell(usize, u32),
+    Ends([Link; 3]),
+}
+
+/// A line's fields.
+fn fields(f: &mut Fields) -> Result<Line, String> {
+    let call = match f.text("the call")? {
+        "" => return Ok(Line::Nothing),
+        "digest" => return Ok(Line::Digest),
+        "watch" => return Ok(Line::Watch(f.number("C")?)),
+        "lend" => return Ok(Line::Lend(f.number("C")?, f.number("N")?)),
+        "row" => {
+            let at = f.number("I")?;
+            let row = Row {
+                key: f.key()?,
+                site: f.read("SITE", site)?,
+                generation: f.number("GEN")?,
+                ids: [f.maybe("EVEN")?, f.maybe("ODD")?],
+                run: f.read("VERDICT", run)?,
+                before: f.maybe("BEFORE")?,
+                after: f.maybe("AFTER")?,
+            };
+            return Ok(Line::Row(at, row));
+        }
+        "cell" => return Ok(Line::Cell(f.number("I")?, f.number("WORD")?)),
+        "ends" => {
+            let ends = [f.maybe("FIRST")?, f.maybe("LAST")?, f.maybe("FREE")?];
+            return Ok(Line::Ends(ends));
+        }
+        "fresh" => Call::Fresh,
+        "drop" => Call::Drop,
+        "check" => Call::Check(f.key()?),
+        "takeout" => Call::TakeOut(f.key()?),
+        "claim" => {
+            let key = f.key()?;
+            let lat = f.text("LAT")?;
+            if lat == "-" {
+                Call::Claim(key, None)
+            } else {
+                let lat = float(lat).ok_or("LAT is not understood")?;
+                let at = (lat, f.read("LON", float)?);
+                let alt_m = f.maybe("ALT")?;
+                Call::Claim(key, Some(Claim { at, alt_m }))
+            }
+        }
+        "position" => Call::Position {
+            key: f.key()?,
+            at: (f.read("LAT", float)?, f.read("LON", float)?),
+            feet: f.maybe("FEET")?,
+            address: f.number("ADDRESS")?,
+            at_ms: f.number("AT_MS")?,
+        },
+        "judging" => Call::Judging {
+            key: f.key()?,
+            now_ms: f.number("NOW_MS")?,
+            aircraft: f.number("AIRCRAFT")?,
+        },
+        word => return Err(format!("unknown call '{word}'")),
+    };
+    Ok(Line::Call(call))
+}
+
+/// Answers a line, if it has an answer; the error says what cannot be read.
+fn answer(watch: &mut Watch, line: &str) -> Result<Option<String>, String> {
+    let text = line.split('#').next().unwrap_or("").trim_end();
+    let mut rest = Fields(text.split(' '));
+    let line = fields(&mut rest)?;
+    if rest.0.next().is_some() {
+        return Err("unexpected field".to_string());
+    }
+    match line {
+        Line::Nothing => {}
+        Line::Call(call) => return Ok(Some(watch.answer(&call, None).line())),
+        Line::Digest => return Ok(Some(format!("digest {:016x}", watch.digest()))),
+        Line::Watch(rows) | Line::Lend(rows, _) if rows > 4_096 => {
+            return Err("C is above 4096".to_string());
+        }
+        Line::Watch(rows) => *watch = Watch::fresh(rows),
+        Line::Lend(rows, cells) => *watch = Watch::lent(rows, cells),
+        Line::Row(at, row) => *watch.rows.get_mut(at).ok_or("I is past the rows")? = row,
+        Line::Cell(at, word) => *watch.cells.get_mut(at).ok_or("I is past the cells")? = word,
+        Line::Ends(ends) => [watch.first, watch.last, watch.free] = ends,
+    }
+    Ok(None)
+}
+
+/// Answers a list of calls by the whole numbers, a line each.
+pub fn replay(list: &str) -> String {
+    let mut watch = Watch::fresh(1);
+    let mut out = String::new();
+    for (at, line) in list.lines().enumerate() {
+        let said = answer(&mut watch, line)
+            .unwrap_or_else(|wrong| Some(format!("error {}: {wrong}", at + 1)));
+        out.extend(said.map(|said| said + "\n"));
+    }
+    out
+}
+
+/// Lines that cannot be read: a field missing, one too many, one that is no key or no number, a
+/// number past its type, a row that is not there.
+pub const UNREADABLE: [&str; 28] = [
+    "banana 1 2",
+    "claim",
+    "claim 12",
+    "claim 12 1.0 2.0",
+    "claim 12 1.0 north -",
+    "claim 12 1.0 2.0 2147483648",
+    "claim 12 - -",
+    "claim zz 1.0 2.0 -",
+    "claim 00000000000000000000000000000000000000000000000000000000000000001 -",
+    "position 1 1.0 2.0 - 1",
+    "position 1 1.0 2.0 - 1 0 0",
+    "position 1 1.0 2.0 - 4294967296 0",
+    "position 1 1.0 2.0 - 1 18446744073709551616",
+    "position 1 1.0 2.0 -2147483649 1 0",
+    "position 1 1.0 2.0 - -1 0",
+    "judging 1 5",
+    "judging 1 -5 20",
+    "judging 1 5 20 1",
+    "check",
+    "check 1 2",
+    "takeout",
+    "drop 1",
+    "fresh 1",
+    "digest 1",
+    "watch",
+    "watch 4097",
+    "row 4096 1 - 0 - - - - -",
+    "cell 99999999 0",
+];
+
+#[cfg(test)]
+mod tests {
+    use oracle::CELLS;
+
+    use super::*;
+
+    /// P9, P7 and each refusal that a fresh watch can give, as text.
+    #[test]
+    fn a_short_list_is_answered() {
+        let list = "watch 2\nclaim a 51.5 -0.25 -\nclaim b -\nposition a 51.5 -0.25 1200 77 0 # counted\n\
+                    claim c 51.5 -0.25 12\ncheck b\ntakeout c\nposition a 51.5 -0.25 - 77 86400000\n\
+                    position a 51.5 -0.25 - 77 43199999\nposition a 51.5 -200.0 - 77 43199999\ncheck a\n\
+                    judging a 86400000 20\ncheck a\nclaim b -\nposition b 1.0 1.0 - 1 1\ndrop\ndrop\ndrop\nbanana\n";
+        let (a, b, c) = (
+            format!("{:0>64}", "a"),
+            format!("{:0>64}", "b"),
+            format!("{:0>64}", "c"),
+        );
+        let want = format!(
+            "ok 1 -\nok 0 -\nok\nok 1 {b}\nno 3\nok {c}\nok\nno 6\nno 4\nno 7\nok unjudged\nok unjudged\nok 0 -\n\
+             no 5\nok {a}\nok {b}\nno 3\nerror 19: unknown call 'banana'\n"
+        );
+        assert_eq!(replay(list), want);
+    }
+
+    #[test]
+    fn a_lent_watch_comes_back() {
+        let mut watch = Watch::fresh(3);
+        watch.answer(
+            &Call::Claim(
+                [7; 32],
+                Some(Claim {
+                    at: (1.25, -0.0),
+                    alt_m: Some(-3),
+                }),
+            ),
+            None,
+        );
+        watch.rows[1].run = Some(Run {
+            last: 2,
+            wrongs: 255,
+            others: 0,
+            off_km: Some(800),
+            moved: true,
+        });
+        watch.rows[2].ids = [Some(u64::MAX), None];
+        watch.cells[CELLS + 5] = 4_294_967_295;
+        let text = format!("{}digest\n", lend(&watch));
+        assert_eq!(replay(&text), format!("digest {:016x}\n", watch.digest()));
+    }
+
+    /// No unreadable line is read, and none changes the watch.
+    #[test]
+    fn what_is_unreadable_is_an_error() {
+        let list = format!("claim 1 1.0 2.0 -\n{}\ndigest\n", UNREADABLE.join("\n"));
+        let out = replay(&list);
+        for (at, line) in out.lines().skip(1).take(UNREADABLE.len()).enumerate() {
+            assert!(answers(&format!("error {}: ", at + 2), line), "{line}");
+        }
+        let want = replay("claim 1 1.0 2.0 -\ndigest\n");
+        assert_eq!(out.lines().last(), want.lines().last());
+    }
+
+    #[test]
+    fn floats_come_back() {
+        for x in [
+            0.0,
+            -0.0,
+            51.4775,
+            -0.5,
+            1e-7,
+            1e300,
+            f64::NAN,
+            0.1 + 0.2,
+            180.0,
+            -90.0,
+        ] {
+            assert_eq!(float(&real(x)).map(f64::to_bits), Some(x.to_bits()), "{x}");
+        }
+        assert_eq!(real(51.4775), "51.4775");
+        assert_eq!(real(0.0), "0000000000000000");
+    }
+
+    #[test]
+    fn an_answer_may_leave_a_keys_zeros_out() {
+        let long = format!("ok 3 {:0>64}", "a0");
+        assert!(answers(&long, &long) && answers(&long, "ok 3 a0"));
+        assert!(
+            !answers(&long, "ok 2 a0") && !answers(&long, "ok 3 0a") && !answers(&long, "ok 3 -")
+        );
+        assert!(!answers("ok 10 -", "ok 010 -") && !answers("ok", "no 3"));
+    }
+}
