@@ -7,6 +7,8 @@ use floats::degrees;
 use sites::Altitude;
 use sites::Site;
 
+pub mod row;
+
 // A site of no altitude.
 fn site_at(lat: f64, lon: f64) -> Site
     ensures { λ r. ⌜ (r .lat ≡ lat) × (r .lon ≡ lon) ⌝ }

@@ -38,7 +38,11 @@ pub fn fits(p: Part) -> bool
     let h = p.heard;
     let place = h.site;
     let v = p.verdict;
-    if site::fits(place) { run::fits(v) } else { false }
+    if site::fits(place) {
+        run::fits(v)
+    } else {
+        false
+    }
 }
 
 // A row's cells become empty.

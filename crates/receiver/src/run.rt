@@ -39,7 +39,11 @@ fn held_if(three: bool, held: bool, off_km: u32) -> WrongBy
     if three {
         return WrongBy::Km(off_km);
     }
-    if held { WrongBy::Km(off_km) } else { WrongBy::Nothing }
+    if held {
+        WrongBy::Km(off_km)
+    } else {
+        WrongBy::Nothing
+    }
 }
 
 fn kept_unless(three: bool, by: WrongBy) -> WrongBy
@@ -106,9 +110,7 @@ fn goes_on(v: Judged) -> Verdict
     ensures { λ r. ⌜ r ≡ verdict.goesOn v ⌝ }
 {
     match v {
-        Judged::With(w) => {
-            if w.moved { begun() } else { w }
-        }
+        Judged::With(w) => { if w.moved { begun() } else { w } }
         Judged::Never => begun(),
     }
 }

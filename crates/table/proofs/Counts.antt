@@ -49,7 +49,6 @@ numbers-le zero [] d b = omega arith
 numbers-le zero (i ∷ l) d b = omega (arith, b .0)
 numbers-le (suc C) l d b = omega (arith, numbers-le C (del C l) (del-distinct C l d) (del-below C l d b), del-length C l)
 
-
 -- AMONG a list, or apart from it
 pub apart-among : (i : ℕ) (l : List ℕ) → Apart i l → among i l ≡ false
 apart-among i [] a = refl

@@ -16,7 +16,6 @@ use Rattle.table.proofs.Linked.{Freed}
 use Rattle.table.proofs.Question2.{most-none}
 use Rattle.table.proofs.Rep.{FormLaws, Rep}
 
-
 -- n numbers from i
 abbrev pub upFrom : ℕ → ℕ → List ℕ
 upFrom i zero = []

@@ -75,4 +75,3 @@ distinct-drop l i m d =
 -- a row's number is not none
 pub below-none : {m n : ℕ} → m < n → n ≤ NONE → m ≢ NONE
 below-none h l = omega arith
-

@@ -85,7 +85,7 @@ module _ {P : Type 0} (F : Form P) (w : Watch P) (small : length (w .rows) ≤ N
         free = free;
         chained = record { linked = hu; freed = hf; headIs = eh; tailIs = et; freeIs = ef; distinct = d; small = small };
         count = omega (arith, length-append used free, numbers-le C (used ++ free) d (below-append C used free bu bf), numbers-ge C (used ++ free) every);
-        everyRow = λ j n a. clash (every j n) (apart-among j (used ++ free) a) ;
+        everyRow = λ j n a. clash (every j n) (apart-among j (used ++ free) a);
         soundAt = sound-rows (F .unmade) (F .sound) (w .rows) s;
       }
 

@@ -126,10 +126,13 @@ module _ {Act Out : Type 0} (kind : Act → Kind) (R : Rowed Act Out) (law : Law
     drop-rep (i ∷ l) free v =
         let n : eqb (w .ends .head) NONE ≡ false = eqb-no (w .ends .head) NONE (subst (λ (x : ℕ). x ≢ NONE) (sym (v .chained .headIs)) (below-none (v .chained .linked .0) small)) in (
           entries (R .form) w l,
-          (l, i ∷ free,
-          rw (h₁, h₂, n)
-              (subst (λ (x : ℕ). Rep (R .form) (length (w .rows)) (freeRow (R .form) w x) (entries (R .form) w l) l (i ∷ free)) (sym (v .chained .headIs))
-              (free-rep (R .form) (law .formLaws) (length (w .rows)) (sizes .some-row) (sizes .at-most) w (entries (R .form) w (i ∷ l)) [] i l free v))),
+          (
+            l,
+            i ∷ free,
+            rw (h₁, h₂, n)
+                (subst (λ (x : ℕ). Rep (R .form) (length (w .rows)) (freeRow (R .form) w x) (entries (R .form) w l) l (i ∷ free)) (sym (v .chained .headIs))
+                (free-rep (R .form) (law .formLaws) (length (w .rows)) (sizes .some-row) (sizes .at-most) w (entries (R .form) w (i ∷ l)) [] i l free v)),
+          ),
         )
 
     pub drop-passes : (question1 (R .form) (dropStep (R .form) freed w .next) ≡ true) × (question2 (R .form) (dropStep (R .form) freed w .next) ≡ true)

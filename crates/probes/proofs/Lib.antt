@@ -1,0 +1,2 @@
+-- What a distance said leaves room for.
+pub mod Small
