@@ -90,6 +90,14 @@ pub fn all() -> Vec<Field> {
         field("judging one far bin (P10)", false, |at| {
             if at == 1_600 { 60 + EMPTY } else { EMPTY }
         }),
-        field("judging nothing heard", false, |_| EMPTY),
+        field("judging an id held and no cell occupied", false, |_| EMPTY),
+        nothing_heard(),
     ]
+}
+
+/// A row that claims a site and has heard no position: no id is held.
+fn nothing_heard() -> Field {
+    let mut field = field("judging nothing heard", false, |_| EMPTY);
+    field.held.ids = [None, None];
+    field
 }
