@@ -2,6 +2,8 @@
 -- Assumes nothing.
 use mathlib.Core.Path.{_≡_, refl}
 use mathlib.Core.Bool.{true, false}
+use mathlib.Core.List.{[], _∷_}
+use mathlib.Core.Option.{none, some}
 use Prim.Native.Nat.{ℕ, _^_, _<_}
 use lib.IntN.{pos, negsuc}
 use lib.Ieee.{binary64, round, mul}
@@ -21,6 +23,13 @@ use Rattle.sites.specs.declared.Claimed.the-variants.{At}
 use Rattle.near_field.specs.declared.Judgment.the-variants.{Unjudged, Wrong}
 use Rattle.near_field.specs.declared.Evidence.the-variants.{NothingNear}
 use Rattle.judge.specs.Judging.{judgeOf}
+use Rattle.table.specs.Machine.{refused, said}
+use Rattle.receiver.specs.Calls.{check, generationIs, done}
+use Rattle.protection.specs.Run.{held}
+use Rattle.protection.specs.Card.{cardAnswers}
+use Rattle.protection.specs.Promise.{told}
+use Rattle.protection.proofs.Sheet.{W, O, a, b, c, by, answersOf, site, at}
+use Rattle.protection.proofs.Sheet as lists
 use Rattle.judge.proofs.Cases.{rowP10, rowNear}
 use Rattle.judge.proofs.Cases as cases
 
@@ -68,9 +77,25 @@ pub p5-far : (near (pos 100000000) ≡ false) × (near (negsuc 99999999) ≡ fal
 unfolding near
 p5-far = (refl, refl)
 
+-- ---- P6: 'W W O W W: not held; W W W O O W: held.' A run is written newest first.
+pub p6-not : held (W 5 ∷ W 5 ∷ O ∷ W 5 ∷ W 5 ∷ []) ≡ false
+p6-not = refl
+
+pub p6-held : held (W 5 ∷ O ∷ O ∷ W 5 ∷ W 5 ∷ W 5 ∷ []) ≡ true
+p6-held = refl
+
+-- ---- P7: 'at_ms 0, then 86,400,000, then 43,199,999: the last gets 6.' After a claim of a site, on a card; 43,200,000 is accepted, since its half holds no id.
+pub p7 : cardAnswers a none (site ∷ at 0 ∷ at 86400000 ∷ at 43199999 ∷ at 43200000 ∷ []) ≡ (said none (generationIs 1) ∷ said none done ∷ said none done ∷ refused 6 ∷ said none done ∷ [])
+p7 = lists.p7
+
 -- ---- P8: '`horizon_km`(−5, 4) is twice the float 4.12.'
 pub p8 : horizon floats.minus-five floats.four ≡ mul binary64 floats.two fourTwelve
 p8 = floats.p8
+
+-- ---- P9: 'C = 2: claim a (with a site), claim b, position a, claim c pushes out b.' Then b's check gets 3, and a's 7.
+pub p9 : answersOf (told 2 (by a site ∷ by b site ∷ by a (at 0) ∷ by c site ∷ by b check ∷ by a check ∷ []))
+    ≡ (said none (generationIs 1) ∷ said none (generationIs 1) ∷ said none done ∷ said (some b) (generationIs 1) ∷ refused 3 ∷ refused 7 ∷ [])
+p9 = lists.p9
 
 -- ---- P10: '60 positions, no altitude, bin 0 only, 15 aircraft: Wrong 125, NothingNear; 59, or 14 aircraft: Unjudged.'
 -- For every site and any aircraft bits; `rowP10 n bits` has n positions without altitude in far bin 0 of the even half, whose id is 0, and now_ms is 0.

@@ -1,0 +1,11 @@
+pub mod Alone
+pub mod Held
+pub mod Lru
+pub mod Runs
+pub mod Counters
+pub mod Machines
+pub mod Cards
+pub mod Promised
+pub mod Pushed
+pub mod Facts
+pub mod Sheet

@@ -1,0 +1,1 @@
+// A receiver keeps its verdict whatever the others send: definitions and the theorem. No code stands here.
