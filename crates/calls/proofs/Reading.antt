@@ -1,21 +1,34 @@
 -- The ways out of the functions that read a line. Each law takes what the callees answered, in turn, and gives the definition's value: an answer
 -- that is wrong ends the reading, any other one goes on.
-use mathlib.Core.Path.{_≡_, sym, ap, _∙_}
+use mathlib.Core.Path.{_≡_, refl, sym, ap, _∙_}
 use mathlib.Core.Bool.{Bool, true, false}
-use mathlib.Core.List.{List}
-use Prim.Native.Nat.{ℕ, _<_, _≤_}
+use mathlib.Core.List.{List, [], _∷_}
+use Prim.Native.Nat.{ℕ, _-_, _^_, _<_, _≤_}
 use lib.ListN.{length}
 use borrow.Author.Tests.{eq-eqb, ne-eqb, lt-ltb, le-ltb}
 use lib.Ieee.{Float}
 use Rattle.text.specs.Text.{textEnd, fieldAt, partOf, sameBytes}
-use Rattle.text.specs.Numbers.{realOf}
+use Rattle.text.specs.Numbers.{wholeOf, signedOf, realOf}
+use Rattle.text.proofs.Values.{whole-within}
+use Rattle.text.specs.declared.fields.Field.{Field}
+use Rattle.text.specs.declared.numbers.Number.{Number}
+use Rattle.text.specs.declared.numbers.Number.the-variants as number
+use Rattle.text.specs.declared.numbers.Signed.the-variants as signed
+use Rattle.cells.specs.Cells.{bucketOf}
+use Rattle.cells.specs.declared.Height.{Height}
+use Rattle.cells.specs.declared.Height.the-variants.{Known}
+use Rattle.cells.specs.declared.Height.the-variants as heights
+use native.Mathlib.Omega.{arith}
+use lib.IntN.{ℤ}
+use Rattle.calls.specs.declared.read.HeightAt.the-variants as height
+use Rattle.calls.specs.declared.read.WholeAt.the-variants as whole
 use Rattle.text.specs.declared.fields.Field.the-variants.{At, Stray, End}
 use Rattle.text.specs.declared.numbers.Real.the-variants as real
 use Rattle.floats.specs.Horizon.{horizon}
 use Rattle.sites.specs.Sites.{held, samePlace}
 use Rattle.sites.specs.declared.Site.{Site}
 use Rattle.calls.specs.declared.reply.Name.{Name}
-use Rattle.calls.specs.declared.reply.Name.the-variants.{Lat1, Lon1, Lat2, Lon2, A, B}
+use Rattle.calls.specs.declared.reply.Name.the-variants.{Lat1, Lon1, Lat2, Lon2, A, B, Feet, Address}
 use Rattle.calls.specs.declared.reply.Fault.{Fault}
 use Rattle.calls.specs.declared.reply.Fault.the-variants as fault
 use Rattle.calls.specs.declared.reply.Reply.{Reply}
@@ -24,7 +37,7 @@ use Rattle.calls.specs.declared.read.RealAt.the-variants as one
 use Rattle.calls.specs.declared.read.Two.the-variants as two
 use Rattle.calls.specs.declared.read.Four.the-variants as four
 use Rattle.calls.specs.declared.read.Rest.the-variants as rest
-use Rattle.calls.specs.Replies.{realBy, realIn, realAt, secondBy, twoBy, twoAt, restBy, restAt, fourBy, laterBy, earlierBy, fourAt, placeBy, siteOf, sameOf, sameBy, horizonEnd, horizonBy, wordPlace, wordSame, wordHorizon, callOf, returnAtEnd, textBy, textReply, lineReply, replyTo}
+use Rattle.calls.specs.Replies.{heightBy, heightIn, heightOf, heightAt, wholeBy, wholeIn, wholeAt, bucketEnd, bucketBy, bitOf, bitEnd, bitBy, wordBucket, wordBit, realBy, realIn, realAt, secondBy, twoBy, twoAt, restBy, restAt, fourBy, laterBy, earlierBy, fourAt, placeBy, siteOf, sameOf, sameBy, horizonEnd, horizonBy, wordPlace, wordSame, wordHorizon, callOf, returnAtEnd, textBy, textReply, lineReply, replyTo}
 
 -- ---- one number
 module _ (t : List ℕ) (from : ℕ) (name : Name) where
@@ -43,6 +56,64 @@ module _ (t : List ℕ) (from : ℕ) (name : Name) where
   pub real-end : fieldAt t from ≡ End → one.Wrong (fault.Missing name) ≡ realAt t from name
   unfolding realAt
   real-end f = sym (ap (realIn t name) f)
+
+-- ---- an altitude
+module _ (s : List ℕ) (next : ℕ) (name : Name) where
+  pub height-unknown : sameBytes s (45 ∷ []) ≡ true → height.Is heights.Unknown next ≡ heightOf s next name
+  unfolding heightOf
+  height-unknown h = rw h
+
+  pub height-known : {feet : ℤ} → sameBytes s (45 ∷ []) ≡ false → signedOf s ≡ signed.Is feet → height.Is (Known feet) next ≡ heightOf s next name
+  unfolding heightOf
+  height-known h r = rw h (sym (ap (heightBy next name) r))
+
+  pub height-bad : sameBytes s (45 ∷ []) ≡ false → signedOf s ≡ signed.Bad → height.Wrong (fault.NotNumber name) ≡ heightOf s next name
+  unfolding heightOf
+  height-bad h r = rw h (sym (ap (heightBy next name) r))
+
+module _ (t : List ℕ) (from : ℕ) (name : Name) where
+  pub height-is : {s e n : ℕ} → fieldAt t from ≡ At s e n → heightOf (partOf t s e) n name ≡ heightAt t from name
+  unfolding heightAt
+  height-is f = sym (ap (heightIn t name) f)
+
+  pub height-stray : fieldAt t from ≡ Stray → height.Wrong fault.StraySpace ≡ heightAt t from name
+  unfolding heightAt
+  height-stray f = sym (ap (heightIn t name) f)
+
+  pub height-end : fieldAt t from ≡ End → height.Wrong (fault.Missing name) ≡ heightAt t from name
+  unfolding heightAt
+  height-end f = sym (ap (heightIn t name) f)
+
+-- ---- a whole number
+module _ (t : List ℕ) (from most : ℕ) (name : Name) where
+  pub whole-is : {s e n k : ℕ} → fieldAt t from ≡ At s e n → wholeOf most (partOf t s e) ≡ number.Is k → whole.Is k n ≡ wholeAt t from most name
+  unfolding wholeAt
+  whole-is {n = n} f r = sym (ap (wholeIn t most name) f ∙ ap (wholeBy n name) r)
+
+  pub whole-bad : {s e n : ℕ} → fieldAt t from ≡ At s e n → wholeOf most (partOf t s e) ≡ number.Bad → whole.Wrong (fault.NotNumber name) ≡ wholeAt t from most name
+  unfolding wholeAt
+  whole-bad {n = n} f r = sym (ap (wholeIn t most name) f ∙ ap (wholeBy n name) r)
+
+  pub whole-stray : fieldAt t from ≡ Stray → whole.Wrong fault.StraySpace ≡ wholeAt t from most name
+  unfolding wholeAt
+  whole-stray f = sym (ap (wholeIn t most name) f)
+
+  pub whole-end : fieldAt t from ≡ End → whole.Wrong (fault.Missing name) ≡ wholeAt t from most name
+  unfolding wholeAt
+  whole-end f = sym (ap (wholeIn t most name) f)
+
+  -- what was read is at most `most`
+  pub whole-most : (k n : ℕ) → wholeAt t from most name ≡ whole.Is k n → k ≤ most
+  unfolding wholeAt
+  whole-most k n q = by-field (fieldAt t from) q where
+    by-number : (m : ℕ) (p : List ℕ) (x : Number) → wholeOf most p ≡ x → wholeBy m name x ≡ whole.Is k n → k ≤ most
+    by-number m p (number.Is j) e q = let v : j ≡ k = cc in omega (arith, whole-within most j p e)
+    by-number m p number.Bad e q = let z : _≡_ {A = ℕ} 0 1 = cc in omega arith
+
+    by-field : (f : Field) → wholeIn t most name f ≡ whole.Is k n → k ≤ most
+    by-field (At s e m) q = by-number m (partOf t s e) (wholeOf most (partOf t s e)) refl q
+    by-field Stray q = let z : _≡_ {A = ℕ} 0 1 = cc in omega arith
+    by-field End q = let z : _≡_ {A = ℕ} 0 1 = cc in omega arith
 
 -- ---- two
 module _ (t : List ℕ) (from : ℕ) (first second : Name) where
@@ -102,6 +173,20 @@ module _ (t : List ℕ) (from : ℕ) where
   pub horizon-rest : {a b : Float} {n : ℕ} {w : Fault} → twoAt t from A B ≡ two.Are a b n → restAt t n B ≡ rest.Wrong w → reply.Wrong w ≡ horizonBy t (twoAt t from A B)
   horizon-rest {a} {b} f g = sym (ap (horizonBy t) f ∙ ap (horizonEnd a b) g)
 
+-- ---- bucket and bit
+module _ (t : List ℕ) (from : ℕ) where
+  pub bucket-is : {feet : Height} {n : ℕ} → heightAt t from Feet ≡ height.Is feet n → restAt t n Feet ≡ rest.Nothing → reply.Bucket (bucketOf feet) ≡ bucketBy t (heightAt t from Feet)
+  bucket-is {feet} f g = sym (ap (bucketBy t) f ∙ ap (bucketEnd feet) g)
+
+  pub bucket-rest : {feet : Height} {n : ℕ} {w : Fault} → heightAt t from Feet ≡ height.Is feet n → restAt t n Feet ≡ rest.Wrong w → reply.Wrong w ≡ bucketBy t (heightAt t from Feet)
+  bucket-rest {feet} f g = sym (ap (bucketBy t) f ∙ ap (bucketEnd feet) g)
+
+  pub bit-is : {k n : ℕ} → wholeAt t from (2 ^ 32 - 1) Address ≡ whole.Is k n → restAt t n Address ≡ rest.Nothing → reply.Bit (bitOf k) ≡ bitBy t (wholeAt t from (2 ^ 32 - 1) Address)
+  bit-is {k} f g = sym (ap (bitBy t) f ∙ ap (bitEnd k) g)
+
+  pub bit-rest : {k n : ℕ} {w : Fault} → wholeAt t from (2 ^ 32 - 1) Address ≡ whole.Is k n → restAt t n Address ≡ rest.Wrong w → reply.Wrong w ≡ bitBy t (wholeAt t from (2 ^ 32 - 1) Address)
+  bit-rest {k} f g = sym (ap (bitBy t) f ∙ ap (bitEnd k) g)
+
 -- ---- question 4 of both sites
 module _ (a b : Site) where
   pub same-is : held a ≡ true → held b ≡ true → reply.Same (samePlace a b) ≡ sameOf a b
@@ -129,15 +214,21 @@ module _ (t : List ℕ) (end next : ℕ) where
   unfolding callOf
   call-same p q = rw (p, q)
 
-  pub call-horizon : sameBytes (partOf t 0 end) wordPlace ≡ false → sameBytes (partOf t 0 end) wordSame ≡ false → sameBytes (partOf t 0 end) wordHorizon ≡ true
-      → horizonBy t (twoAt t next A B) ≡ callOf t end next
+  pub call-horizon : sameBytes (partOf t 0 end) wordPlace ≡ false → sameBytes (partOf t 0 end) wordSame ≡ false → sameBytes (partOf t 0 end) wordHorizon ≡ true → horizonBy t (twoAt t next A B) ≡ callOf t end next
   unfolding callOf
   call-horizon p q r = rw (p, q, r)
 
-  pub call-none : sameBytes (partOf t 0 end) wordPlace ≡ false → sameBytes (partOf t 0 end) wordSame ≡ false → sameBytes (partOf t 0 end) wordHorizon ≡ false
-      → reply.Wrong (fault.Unknown end) ≡ callOf t end next
+  pub call-bucket : sameBytes (partOf t 0 end) wordPlace ≡ false → sameBytes (partOf t 0 end) wordSame ≡ false → sameBytes (partOf t 0 end) wordHorizon ≡ false → sameBytes (partOf t 0 end) wordBucket ≡ true → bucketBy t (heightAt t next Feet) ≡ callOf t end next
   unfolding callOf
-  call-none p q r = rw (p, q, r)
+  call-bucket p q r s = rw (p, q, r, s)
+
+  pub call-bit : sameBytes (partOf t 0 end) wordPlace ≡ false → sameBytes (partOf t 0 end) wordSame ≡ false → sameBytes (partOf t 0 end) wordHorizon ≡ false → sameBytes (partOf t 0 end) wordBucket ≡ false → sameBytes (partOf t 0 end) wordBit ≡ true → bitBy t (wholeAt t next (2 ^ 32 - 1) Address) ≡ callOf t end next
+  unfolding callOf
+  call-bit p q r s u = rw (p, q, r, s, u)
+
+  pub call-none : sameBytes (partOf t 0 end) wordPlace ≡ false → sameBytes (partOf t 0 end) wordSame ≡ false → sameBytes (partOf t 0 end) wordHorizon ≡ false → sameBytes (partOf t 0 end) wordBucket ≡ false → sameBytes (partOf t 0 end) wordBit ≡ false → reply.Wrong (fault.Unknown end) ≡ callOf t end next
+  unfolding callOf
+  call-none p q r s u = rw (p, q, r, s, u)
 
 -- ---- a text, a line
 module _ (t : List ℕ) where

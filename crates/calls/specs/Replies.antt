@@ -1,27 +1,40 @@
 -- What a line is answered, as a value: fields are read in turn, and the first thing that is wrong is the answer. Definitions only.
-use Prim.Native.Nat.{ℕ, _-_}
+use Prim.Native.Nat.{ℕ, _-_, _^_}
 use mathlib.Core.Bool.{Bool, _&&_, _||_, cond}
 use mathlib.Core.List.{List, [], _∷_}
 use lib.ListN.{length, getD}
 use lib.Dec.{eqb, ltb}
+use lib.Count.{trailingZeros}
 use lib.Ieee.{Float}
 use Rattle.text.specs.Text.{textEnd, fieldAt, partOf, sameBytes}
-use Rattle.text.specs.Numbers.{realOf}
+use Rattle.text.specs.Numbers.{wholeOf, signedOf, realOf}
 use Rattle.text.specs.declared.fields.Field.{Field}
 use Rattle.text.specs.declared.fields.Field.the-variants.{At, Stray, End}
 use Rattle.text.specs.declared.numbers.Real.{Real}
 use Rattle.text.specs.declared.numbers.Real.the-variants as real
+use Rattle.text.specs.declared.numbers.Number.{Number}
+use Rattle.text.specs.declared.numbers.Number.the-variants as number
+use Rattle.text.specs.declared.numbers.Signed.{Signed}
+use Rattle.text.specs.declared.numbers.Signed.the-variants as signed
+use Rattle.cells.specs.Cells.{bucketOf, aircraftBit}
+use Rattle.cells.specs.declared.Height.{Height}
+use Rattle.cells.specs.declared.Height.the-variants.{Known}
+use Rattle.cells.specs.declared.Height.the-variants as heights
 use Rattle.floats.specs.Horizon.{horizon}
 use Rattle.sites.specs.Sites.{held, samePlace, placing}
 use Rattle.sites.specs.declared.Site.{Site}
 use Rattle.sites.specs.declared.Altitude.the-variants.{Unknown}
 use Rattle.calls.specs.declared.reply.Name.{Name}
-use Rattle.calls.specs.declared.reply.Name.the-variants.{Lat1, Lon1, Lat2, Lon2, A, B}
+use Rattle.calls.specs.declared.reply.Name.the-variants.{Lat1, Lon1, Lat2, Lon2, A, B, Feet, Address}
 use Rattle.calls.specs.declared.reply.Fault.the-variants as fault
 use Rattle.calls.specs.declared.reply.Reply.{Reply}
 use Rattle.calls.specs.declared.reply.Reply.the-variants as reply
 use Rattle.calls.specs.declared.read.RealAt.{RealAt}
 use Rattle.calls.specs.declared.read.RealAt.the-variants as one
+use Rattle.calls.specs.declared.read.HeightAt.{HeightAt}
+use Rattle.calls.specs.declared.read.HeightAt.the-variants as height
+use Rattle.calls.specs.declared.read.WholeAt.{WholeAt}
+use Rattle.calls.specs.declared.read.WholeAt.the-variants as whole
 use Rattle.calls.specs.declared.read.Two.{Two}
 use Rattle.calls.specs.declared.read.Two.the-variants as two
 use Rattle.calls.specs.declared.read.Four.{Four}
@@ -43,6 +56,36 @@ realIn t name End = one.Wrong (fault.Missing name)
 
 unfoldable pub realAt : List ℕ → ℕ → Name → RealAt
 realAt t from name = realIn t name (fieldAt t from)
+
+-- FEET, or `-` (45) where it is not known
+abbrev pub heightBy : ℕ → Name → Signed → HeightAt
+heightBy next name (signed.Is feet) = height.Is (Known feet) next
+heightBy next name signed.Bad = height.Wrong (fault.NotNumber name)
+
+unfoldable pub heightOf : List ℕ → ℕ → Name → HeightAt
+heightOf s next name = cond (sameBytes s (45 ∷ [])) (height.Is heights.Unknown next) (heightBy next name (signedOf s))
+
+abbrev pub heightIn : List ℕ → Name → Field → HeightAt
+heightIn t name (At s e next) = heightOf (partOf t s e) next name
+heightIn t name Stray = height.Wrong fault.StraySpace
+heightIn t name End = height.Wrong (fault.Missing name)
+
+unfoldable pub heightAt : List ℕ → ℕ → Name → HeightAt
+unfolding heightOf
+heightAt t from name = heightIn t name (fieldAt t from)
+
+-- a decimal number up to `most`
+abbrev pub wholeBy : ℕ → Name → Number → WholeAt
+wholeBy next name (number.Is n) = whole.Is n next
+wholeBy next name number.Bad = whole.Wrong (fault.NotNumber name)
+
+abbrev pub wholeIn : List ℕ → ℕ → Name → Field → WholeAt
+wholeIn t most name (At s e next) = wholeBy next name (wholeOf most (partOf t s e))
+wholeIn t most name Stray = whole.Wrong fault.StraySpace
+wholeIn t most name End = whole.Wrong (fault.Missing name)
+
+unfoldable pub wholeAt : List ℕ → ℕ → ℕ → Name → WholeAt
+wholeAt t from most name = wholeIn t most name (fieldAt t from)
 
 -- two numbers
 abbrev pub secondBy : Float → RealAt → Two
@@ -110,6 +153,27 @@ abbrev pub horizonBy : List ℕ → Two → Reply
 horizonBy t (two.Are a b next) = horizonEnd a b (restAt t next B)
 horizonBy t (two.Wrong f) = reply.Wrong f
 
+-- bucket FEET
+abbrev pub bucketEnd : Height → Rest → Reply
+bucketEnd feet rest.Nothing = reply.Bucket (bucketOf feet)
+bucketEnd feet (rest.Wrong f) = reply.Wrong f
+
+abbrev pub bucketBy : List ℕ → HeightAt → Reply
+bucketBy t (height.Is feet next) = bucketEnd feet (restAt t next Feet)
+bucketBy t (height.Wrong f) = reply.Wrong f
+
+-- bit ADDRESS: the number of the aircraft's bit, from the lowest, 0
+unfoldable pub bitOf : ℕ → ℕ
+bitOf address = trailingZeros 16 (aircraftBit address)
+
+abbrev pub bitEnd : ℕ → Rest → Reply
+bitEnd address rest.Nothing = reply.Bit (bitOf address)
+bitEnd address (rest.Wrong f) = reply.Wrong f
+
+abbrev pub bitBy : List ℕ → WholeAt → Reply
+bitBy t (whole.Is address next) = bitEnd address (restAt t next Address)
+bitBy t (whole.Wrong f) = reply.Wrong f
+
 -- the words of the calls
 abbrev pub wordPlace : List ℕ
 wordPlace = 112 ∷ 108 ∷ 97 ∷ 99 ∷ 101 ∷ []
@@ -120,13 +184,21 @@ wordSame = 115 ∷ 97 ∷ 109 ∷ 101 ∷ []
 abbrev pub wordHorizon : List ℕ
 wordHorizon = 104 ∷ 111 ∷ 114 ∷ 105 ∷ 122 ∷ 111 ∷ 110 ∷ []
 
+abbrev pub wordBucket : List ℕ
+wordBucket = 98 ∷ 117 ∷ 99 ∷ 107 ∷ 101 ∷ 116 ∷ []
+
+abbrev pub wordBit : List ℕ
+wordBit = 98 ∷ 105 ∷ 116 ∷ []
+
 unfoldable pub callOf : List ℕ → ℕ → ℕ → Reply
-unfolding fourAt twoAt
+unfolding fourAt twoAt heightAt wholeAt bitOf
 callOf t end next =
     cond (sameBytes (partOf t 0 end) wordPlace) (placeBy (fourAt t next))
     (cond (sameBytes (partOf t 0 end) wordSame) (sameBy (fourAt t next))
     (cond (sameBytes (partOf t 0 end) wordHorizon) (horizonBy t (twoAt t next A B))
-    (reply.Wrong (fault.Unknown end))))
+    (cond (sameBytes (partOf t 0 end) wordBucket) (bucketBy t (heightAt t next Feet))
+    (cond (sameBytes (partOf t 0 end) wordBit) (bitBy t (wholeAt t next (2 ^ 32 - 1) Address))
+    (reply.Wrong (fault.Unknown end))))))
 
 -- a text that ends in a carriage return (13) has a stray one
 unfoldable pub returnAtEnd : List ℕ → Bool

@@ -2,16 +2,30 @@
 use crate::reply::Fault;
 use crate::reply::Name;
 use crate::reply::Reply;
+use cells::Height;
 use sites::Altitude;
 use sites::Site;
 use text::Field;
+use text::Number;
 use text::Real;
+use text::Signed;
 ghost use mathlib.Core.Path.{_≡_};
-ghost use Rattle.calls.specs.Replies.{realAt, twoAt, restAt, fourAt, siteOf, sameOf, placeBy, sameBy, horizonBy, callOf, returnAtEnd, textReply, lineReply};
+ghost use Prim.Native.Nat.{_<_, _^_, _-_};
+ghost use Rattle.calls.specs.Replies.{realAt, heightOf, heightAt, wholeAt, twoAt, restAt, fourAt, siteOf, sameOf, placeBy, sameBy, horizonBy, bucketBy, bitOf, bitBy, callOf, returnAtEnd, textReply, lineReply};
 
 // A number at a field, and where the next field starts; or what is wrong.
 pub enum RealAt {
     Is(f64, usize),
+    Wrong(Fault),
+}
+
+pub enum HeightAt {
+    Is(Height, usize),
+    Wrong(Fault),
+}
+
+pub enum WholeAt {
+    Is(u64, usize),
     Wrong(Fault),
 }
 
@@ -40,6 +54,42 @@ fn real_at(t: &[u8], from: usize, name: Name) -> RealAt
         },
         Field::Stray => RealAt::Wrong(Fault::StraySpace),
         Field::End => RealAt::Wrong(Fault::Missing(name)),
+    }
+}
+
+// An altitude in feet, or `-` where it is not known.
+fn height_of(s: &[u8], next: usize, name: Name) -> HeightAt
+    ensures { λ r. ⌜ r ≡ heightOf (now (s .entry)) next name ⌝ }
+{
+    if text::same(s, b"-") {
+        return HeightAt::Is(Height::Unknown, next);
+    }
+    match text::read_signed(s) {
+        Signed::Is(feet) => HeightAt::Is(Height::Known(feet), next),
+        Signed::Bad => HeightAt::Wrong(Fault::NotNumber(name)),
+    }
+}
+
+fn height_at(t: &[u8], from: usize, name: Name) -> HeightAt
+    ensures { λ r. ⌜ r ≡ heightAt (now (t .entry)) from name ⌝ }
+{
+    match text::next_field(t, from) {
+        Field::At { start, end, next } => height_of(text::part(t, start, end), next, name),
+        Field::Stray => HeightAt::Wrong(Fault::StraySpace),
+        Field::End => HeightAt::Wrong(Fault::Missing(name)),
+    }
+}
+
+fn whole_at(t: &[u8], from: usize, most: u64, name: Name) -> WholeAt
+    ensures { λ r. ⌜ r ≡ wholeAt (now (t .entry)) from most name ⌝ }
+{
+    match text::next_field(t, from) {
+        Field::At { start, end, next } => match text::read_whole(text::part(t, start, end), most) {
+            Number::Is(n) => WholeAt::Is(n, next),
+            Number::Bad => WholeAt::Wrong(Fault::NotNumber(name)),
+        },
+        Field::Stray => WholeAt::Wrong(Fault::StraySpace),
+        Field::End => WholeAt::Wrong(Fault::Missing(name)),
     }
 }
 
@@ -138,6 +188,38 @@ fn horizon_line(t: &[u8], from: usize) -> Reply
     }
 }
 
+fn bucket_line(t: &[u8], from: usize) -> Reply
+    ensures { λ r. ⌜ r ≡ bucketBy (now (t .entry)) (heightAt (now (t .entry)) from Name.Feet) ⌝ }
+{
+    match height_at(t, from, Name::Feet) {
+        HeightAt::Is(feet, after) => match ended(t, after, Name::Feet) {
+            Rest::Nothing => Reply::Bucket(cells::bucket(feet)),
+            Rest::Wrong(f) => Reply::Wrong(f),
+        },
+        HeightAt::Wrong(f) => Reply::Wrong(f),
+    }
+}
+
+// The number of an aircraft's bit.
+fn bit_number(address: u64) -> u32
+    requires { ⌜ address < 2 ^ 32 ⌝ }
+    ensures { λ r. ⌜ r ≡ bitOf address ⌝ }
+{
+    u16::trailing_zeros(cells::aircraft_bit(address as u32))
+}
+
+fn bit_line(t: &[u8], from: usize) -> Reply
+    ensures { λ r. ⌜ r ≡ bitBy (now (t .entry)) (wholeAt (now (t .entry)) from (2 ^ 32 - 1) Name.Address) ⌝ }
+{
+    match whole_at(t, from, 4294967295, Name::Address) {
+        WholeAt::Is(address, after) => match ended(t, after, Name::Address) {
+            Rest::Nothing => Reply::Bit(bit_number(address)),
+            Rest::Wrong(f) => Reply::Wrong(f),
+        },
+        WholeAt::Wrong(f) => Reply::Wrong(f),
+    }
+}
+
 // The call whose word ends at `end` and whose first field starts at `next`.
 fn call(t: &[u8], end: usize, next: usize) -> Reply
     ensures { λ r. ⌜ r ≡ callOf (now (t .entry)) end next ⌝ }
@@ -151,6 +233,12 @@ fn call(t: &[u8], end: usize, next: usize) -> Reply
     }
     if text::same(word, b"horizon") {
         return horizon_line(t, next);
+    }
+    if text::same(word, b"bucket") {
+        return bucket_line(t, next);
+    }
+    if text::same(word, b"bit") {
+        return bit_line(t, next);
     }
     Reply::Wrong(Fault::Unknown { end })
 }

@@ -8,6 +8,8 @@ pub enum Name {
     Lon2,
     A,
     B,
+    Feet,
+    Address,
 }
 
 // Why a line cannot be read.
@@ -27,6 +29,8 @@ pub enum Reply {
     Place(u16),
     Same(bool),
     Horizon(f64),
+    Bucket(u8),
+    Bit(u32),
     No(u8),
     Wrong(Fault),
 }

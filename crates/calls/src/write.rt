@@ -18,6 +18,8 @@ fn put_name(out: &mut [u8], n: usize, name: Name) -> usize
         Name::Lon2 => put(out, n, b"LON2"),
         Name::A => put(out, n, b"A"),
         Name::B => put(out, n, b"B"),
+        Name::Feet => put(out, n, b"FEET"),
+        Name::Address => put(out, n, b"ADDRESS"),
     }
 }
 
@@ -88,6 +90,8 @@ pub fn put_reply(out: &mut [u8], n: usize, reply: Reply, number: u64, line: &[u8
         Reply::Place(p) => put_counted(out, n, b"place ", p as u64),
         Reply::Same(yes) => put_counted(out, n, b"same ", yes as u64),
         Reply::Horizon(km) => put_float(out, n, b"horizon ", km),
+        Reply::Bucket(b) => put_counted(out, n, b"bucket ", b as u64),
+        Reply::Bit(k) => put_counted(out, n, b"bit ", k as u64),
         Reply::No(question) => put_counted(out, n, b"no ", question as u64),
         Reply::Wrong(fault) => put_error(out, n, fault, number, line),
     }

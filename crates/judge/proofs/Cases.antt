@@ -13,7 +13,7 @@ use Rattle.angles.specs.Bearing.{sector}
 use Rattle.floats.specs.declared.horizon.Past.the-variants.{No}
 use Rattle.cells.specs.Cells.{packed, emptyWord, countOf, lowOf, occupiedWord}
 use Rattle.cells.specs.Passes.{pass, first, howMany, table}
-use Rattle.cells.proofs.Passes.{pass-all, table-same}
+use Rattle.cells.proofs.Passes.{pass-all}
 use Rattle.cells.proofs.Words.{Parts, packed-parts, empty-fits}
 use Rattle.view.specs.View.{kept, mergedOf, mergedAt, gridOf, farOf}
 use Rattle.view.specs.declared.EpochId.the-variants.{Id, Nothing}
@@ -22,12 +22,13 @@ use Rattle.view.proofs.Views.{grid-at, bins-at, even-alone}
 use Rattle.sites.specs.declared.Site.{Site}
 use Rattle.sites.specs.declared.Claimed.the-variants.{At}
 use Rattle.past_horizon.specs.Horizon.{pastHorizon}
-use Rattle.near_field.specs.Plane.{square, steps, said}
+use Rattle.near_field.specs.Plane.{square}
 use Rattle.near_field.specs.Marks.{some, inSector, sectorsIn, cellIn, binIn, outsideOf}
 use Rattle.near_field.specs.declared.Judgment.the-variants.{Unjudged, Wrong}
 use Rattle.near_field.specs.declared.Evidence.the-variants.{NothingNear}
-use Rattle.nothing_near.specs.Nothing.{Place, km, edges, halfway, cellPlace, binPlace, heard, placesHeard, places, thirdOrLast, third, positionsIn, typicalIn, nothingNearIn, nothingNear}
-use Rattle.nothing_near.specs.Sorted.{insert, ascending, firstReaching, total}
+use Rattle.near_field.proofs.Marked.{table-same}
+use Rattle.nothing_near.specs.Nothing.{cellPlace, binPlace, heard, placesHeard, places, nothingNear}
+use Rattle.nothing_near.proofs.Cases.{p10-off, p10-few, near-not-far as places-not-far}
 use Rattle.nothing_near.specs.declared.Empty.the-variants.{Off, Heard}
 use Rattle.judge.specs.Judging.{ifOutside, judgeCells, judgeRow, judgeOf}
 use Rattle.judge.proofs.Few.{pass-one, pass-two, skip-place, skip-count, none-past, low-free}
@@ -71,17 +72,14 @@ module _ (cells : List ℕ) where
 -- ---- bins of which only the first is occupied, without altitude
 module _ (far : Far) (w n : ℕ) (here : getD (far .cells) 0 0 ≡ w) (count : countOf w ≡ suc n) (low : lowOf w ≡ 255)
     (free : (j : ℕ) → j < 72 → (j ≡ 0 → ⊥) → getD (far .cells) j 0 ≡ emptyWord) where
-  abbrev pub bin0 : Place
-  bin0 = record { nearest = 1600; typical = 2500; positions = suc n }
-
   holds : occupiedWord w ≡ true
   holds = lt-ltb 0 (countOf w) (omega (arith, count))
 
-  pub bin-heard : heard (binPlace (far .cells)) (far .cells) 72 ≡ bin0 ∷ []
-  unfolding heard binPlace edges halfway km square
+  pub bin-heard : heard (binPlace (far .cells)) (far .cells) 72 ≡ binPlace (far .cells) 0 ∷ []
+  unfolding heard
   bin-heard =
       pass-one _ [] 0 72 (omega arith) (λ j l d x. skip-place (getD (far .cells) j 0) (binPlace (far .cells) j) (free j l d) x)
-      ∙ rw (here, holds, count)
+      ∙ ap (λ (b : Bool). cond b (binPlace (far .cells) 0 ∷ []) []) (ap occupiedWord here ∙ holds)
 
   pub bin-low : (j : ℕ) → j < 72 → lowOf (getD (far .cells) j 0) ≡ 255
   bin-low zero l = ap lowOf here ∙ low
@@ -151,14 +149,14 @@ module _ (n bits : ℕ) (few : suc n ≤ 255) (fit : bits < 2 ^ 16) where
   bin-free : (j : ℕ) → j < 72 → (j ≡ 0 → ⊥) → getD (far10 .cells) j 0 ≡ emptyWord
   bin-free j l d = bin-at row j emptyWord l (elsewhere (1600 + j) (omega arith) (λ e. omega arith)) empty-fits
 
-  abbrev place : Place
-  place = record { nearest = 1600; typical = 2500; positions = suc n }
-
-  places10 : placesHeard grid10 far10 ≡ place ∷ []
+  places10 : placesHeard grid10 far10 ≡ binPlace (far10 .cells) 0 ∷ []
   unfolding placesHeard
   places10 =
       rw (none-heard (cellPlace grid10) grid10 1600 grid-free)
       (bin-heard far10 (heardWord (suc n) bits) n bin-here (word (suc n) bits few fit .count) (word (suc n) bits few fit .low) bin-free)
+
+  count10 : countOf (getD (far10 .cells) 0 0) ≡ suc n
+  count10 = ap countOf bin-here ∙ word (suc n) bits few fit .count
 
   no-cells : (k : ℕ) → howMany (cellIn grid10 k) 1600 ≡ 0
   unfolding cellIn
@@ -169,32 +167,26 @@ module _ (n bits : ℕ) (few : suc n ≤ 255) (fit : bits < 2 ^ 16) where
   outside10 =
       few-sectors (λ (k : ℕ). some (cellIn grid10 k) 1600 || some (binIn (far10 .cells) k) 72) in-one
       (table-same (λ (k : ℕ). some (cellIn grid10 k) 1600 || some (binIn (far10 .cells) k) 72) in-one 8
-      (λ k l. rw (no-cells k, bin-sector far10 (heardWord (suc n) bits) n bin-here (word (suc n) bits few fit .count) (word (suc n) bits few fit .low) bin-free k))) one-sector
+      (λ k. rw (no-cells k, bin-sector far10 (heardWord (suc n) bits) n bin-here (word (suc n) bits few fit .count) (word (suc n) bits few fit .low) bin-free k))) one-sector
 
   past10 : (site : Site) → No ≡ pastHorizon site far10
   past10 site = none-past site far10 (bin-low far10 (heardWord (suc n) bits) n bin-here (word (suc n) bits few fit .count) (word (suc n) bits few fit .low) bin-free)
 
 -- 60 positions, no altitude, bin 0 only, 15 aircraft: Wrong 125, NothingNear
-sixty : nothingNearIn (record { nearest = 1600; typical = 2500; positions = 60 } ∷ []) ≡ Off 125
-unfolding nothingNearIn positionsIn total third thirdOrLast ascending insert typicalIn firstReaching km square said steps first
-sixty = refl
-
 pub p10 : (site : Site) (bits : ℕ) → bits < 2 ^ 16 → judgeOf (At site) (Id 0) Nothing (rowP10 60 bits) 0 15 ≡ Wrong 125 NothingNear
-unfolding judgeOf judgeRow kept nothingNear
+unfolding judgeOf judgeRow kept
 p10 site bits b =
-    sym (to-off site (grid10 59 bits (omega arith) b) (far10 59 bits (omega arith) b) (outside10 59 bits (omega arith) b) (past10 59 bits (omega arith) b site) 125
-    (ap nothingNearIn (places10 59 bits (omega arith) b) ∙ sixty))
+    let l : 60 ≤ 255 = omega arith in
+    sym (to-off site (grid10 59 bits l b) (far10 59 bits l b) (outside10 59 bits l b) (past10 59 bits l b site) 125
+    (p10-off (grid10 59 bits l b) (far10 59 bits l b) (places10 59 bits l b) (count10 59 bits l b)))
 
 -- 59: Unjudged
-fifty-nine : nothingNearIn (record { nearest = 1600; typical = 2500; positions = 59 } ∷ []) ≡ Heard
-unfolding nothingNearIn positionsIn total
-fifty-nine = refl
-
 pub p10-59 : (site : Site) (bits : ℕ) → bits < 2 ^ 16 → judgeOf (At site) (Id 0) Nothing (rowP10 59 bits) 0 15 ≡ Unjudged
-unfolding judgeOf judgeRow kept nothingNear places
+unfolding judgeOf judgeRow kept places
 p10-59 site bits b =
-    sym (to-few site (grid10 58 bits (omega arith) b) (far10 58 bits (omega arith) b) (outside10 58 bits (omega arith) b) (past10 58 bits (omega arith) b site) 1
-    (ap nothingNearIn (places10 58 bits (omega arith) b) ∙ fifty-nine) (ap length (sym (places10 58 bits (omega arith) b))) (omega arith))
+    let l : 59 ≤ 255 = omega arith in
+    sym (to-few site (grid10 58 bits l b) (far10 58 bits l b) (outside10 58 bits l b) (past10 58 bits l b site) 1
+    (p10-few (grid10 58 bits l b) (far10 58 bits l b) (places10 58 bits l b) (count10 58 bits l b)) (ap length (sym (places10 58 bits l b))) (omega arith))
 
 -- or 14 aircraft: Unjudged
 pub p10-14 : (site : Site) (bits : ℕ) → judgeOf (At site) (Id 0) Nothing (rowP10 60 bits) 0 14 ≡ Unjudged
@@ -272,15 +264,19 @@ module _ (bits : ℕ) (fit : bits < 2 ^ 16) where
   count-one = word 1 bits (omega arith) fit .count
 
   -- the three places heard
-  cells-heard : heard (cellPlace gridN) gridN 1600 ≡ record { nearest = 2; typical = 2; positions = 255 } ∷ record { nearest = 10; typical = 10; positions = 1 } ∷ []
-  unfolding heard cellPlace square
+  cells-heard : heard (cellPlace gridN) gridN 1600 ≡ cellPlace gridN 820 ∷ cellPlace gridN 860 ∷ []
+  unfolding heard
   cells-heard =
       pass-two _ [] 820 860 1600 (omega arith) (omega arith) (λ i l a b x. skip-place (getD gridN i 0) (cellPlace gridN i) (near-free i l a b) x)
       ∙ rw (near-820, near-860, count-most, count-one)
 
-  places-near : placesHeard gridN farN ≡ record { nearest = 2; typical = 2; positions = 255 } ∷ record { nearest = 10; typical = 10; positions = 1 } ∷ record { nearest = 1600; typical = 2500; positions = 1 } ∷ []
+  places-near : placesHeard gridN farN ≡ cellPlace gridN 820 ∷ cellPlace gridN 860 ∷ binPlace (farN .cells) 0 ∷ []
   unfolding placesHeard
   places-near = rw (cells-heard, bin-heard farN one 0 far-here count-one (word 1 bits (omega arith) fit .low) far-free)
+
+  five : nothingNear gridN farN ≡ Off 5
+  five =
+      places-not-far gridN farN places-near (ap countOf near-820 ∙ count-most) (ap countOf near-860 ∙ count-one) (ap countOf far-here ∙ count-one)
 
   -- (1,1) lies in sector 1, (1,3) in sector 0
   cell-sectors : (k : ℕ) → howMany (cellIn gridN k) 1600 ≡ cond (eqb 0 k) (cond (eqb 1 k) 1 0 + 1) (cond (eqb 1 k) 1 0)
@@ -294,15 +290,10 @@ module _ (bits : ℕ) (fit : bits < 2 ^ 16) where
   outside-near =
       few-sectors (λ (k : ℕ). some (cellIn gridN k) 1600 || some (binIn (farN .cells) k) 72) in-two
       (table-same (λ (k : ℕ). some (cellIn gridN k) 1600 || some (binIn (farN .cells) k) 72) in-two 8
-      (λ k l. rw (cell-sectors k, bin-sector farN one 0 far-here count-one (word 1 bits (omega arith) fit .low) far-free k))) two-sectors
-
-near-five : nothingNearIn (record { nearest = 2; typical = 2; positions = 255 } ∷ record { nearest = 10; typical = 10; positions = 1 } ∷ record { nearest = 1600; typical = 2500; positions = 1 } ∷ []) ≡ Off 5
-unfolding nothingNearIn positionsIn total third thirdOrLast ascending insert typicalIn firstReaching km square said steps first
-near-five = refl
+      (λ k. rw (cell-sectors k, bin-sector farN one 0 far-here count-one (word 1 bits (omega arith) fit .low) far-free k))) two-sectors
 
 pub near-not-far : (site : Site) (bits : ℕ) → bits < 2 ^ 16 → judgeOf (At site) (Id 0) Nothing (rowNear bits) 0 15 ≡ Wrong 5 NothingNear
-unfolding judgeOf judgeRow kept nothingNear
+unfolding judgeOf judgeRow kept
 near-not-far site bits b =
     sym (to-off site (gridN bits b) (farN bits b) (outside-near bits b)
-    (none-past site (farN bits b) (bin-low (farN bits b) (one bits b) 0 (far-here bits b) (count-one bits b) (word 1 bits (omega arith) b .low) (far-free bits b))) 5
-    (ap nothingNearIn (places-near bits b) ∙ near-five))
+    (none-past site (farN bits b) (bin-low (farN bits b) (one bits b) 0 (far-here bits b) (count-one bits b) (word 1 bits (omega arith) b .low) (far-free bits b))) 5 (five bits b))
