@@ -19,7 +19,7 @@ use Rattle.receiver.specs.Calls.{Act, Out, kind, freed, siting}
 use Rattle.receiver.proofs.Keeps.{lawful}
 use Rattle.protection.specs.Marks.{Stays}
 use Rattle.protection.specs.Promise.{told}
-use Rattle.protection.specs.Facts.{AnyCall, withKey, fresh, drop, anyStep, anyAfter, NeverNo, NotPushedOut}
+use Rattle.protection.specs.Facts.{AnyCall, withKey, fresh, dropping, anyStep, anyAfter, NeverNo, NotPushedOut}
 use Rattle.protection.proofs.Alone.{marks}
 use Rattle.protection.proofs.Pushed.{stays}
 use Rattle.protection.proofs.Promised.{most-is, marks-are, told-is-table}
@@ -34,7 +34,7 @@ fresh-passes C one m =
 
 step-passes : (w : Watch Part) (c : AnyCall) → Passes w → Passes (anyStep w c .next)
 step-passes w (withKey c) p = passes-again kind siting lawful w (p .0) (p .1) c
-step-passes w drop p = drop-passes kind siting lawful w (p .0) (p .1) freed
+step-passes w dropping p = drop-passes kind siting lawful w (p .0) (p .1) freed
 step-passes w fresh p = let s = question-one (siting .form) w (p .0) in rw (p .0) (fresh-passes (length (w .rows)) (s .some-row) (s .at-most))
 
 all-pass : (w : Watch Part) (calls : List AnyCall) → Passes w → Passes (anyAfter w calls)

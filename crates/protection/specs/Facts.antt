@@ -18,12 +18,12 @@ use Rattle.protection.specs.Promise.{marksKey, told}
 pub data AnyCall : Type 0 where
   withKey : Call Act → AnyCall
   fresh : AnyCall
-  drop : AnyCall
+  dropping : AnyCall
 
 abbrev pub anyStep : Watch Part → AnyCall → Step (Watch Part) Out
 anyStep w (withKey c) = watchStep kind siting w c
 anyStep w fresh = freshCall w
-anyStep w drop = dropOldest w
+anyStep w dropping = dropOldest w
 
 abbrev pub anyAfter : Watch Part → List AnyCall → Watch Part
 anyAfter w [] = w
