@@ -1,0 +1,46 @@
+-- `rows::fresh_row` meets its contract: each way out is a law that is cited below, at what the code found.
+use Rattle.rows.proofs.Laws.{fresh-last, fresh-next, fresh-far}
+use borrow.Author.Needs.{needs}
+use Rattle.rows.proofs.fresh_row.Statement.{statement}
+use Rattle.rows.proofs.fresh_row.Tie as tie
+
+no-row-requires : tie.Need-no-row-requires
+no-row-requires c κs = search needs
+
+add-t : tie.Need-add-t
+add-t c = search needs
+
+unmade-row-requires : tie.Need-unmade-row-requires
+unmade-row-requires c κs = search needs
+
+returns : tie.Need-returns
+returns c = search (fresh-last, needs)
+
+cast-unmade-row : tie.Need-cast-unmade-row
+cast-unmade-row c = search needs
+
+unmade-row-requires-2 : tie.Need-unmade-row-requires-2
+unmade-row-requires-2 c κs = search needs
+
+returns-2 : tie.Need-returns-2
+returns-2 c = search (fresh-next, needs)
+
+unmade-row-requires-3 : tie.Need-unmade-row-requires-3
+unmade-row-requires-3 c κs = search needs
+
+returns-3 : tie.Need-returns-3
+returns-3 c = search (fresh-far, needs)
+
+pub fresh-row-spec : {M : Type 1} → statement M
+fresh-row-spec =
+    tie.close
+    (tie.spec
+    no-row-requires
+    add-t
+    unmade-row-requires
+    returns
+    cast-unmade-row
+    unmade-row-requires-2
+    returns-2
+    unmade-row-requires-3
+    returns-3)

@@ -1,0 +1,4 @@
+-- The definitions that contracts cite.
+pub mod Read
+pub mod Links
+pub mod Search
