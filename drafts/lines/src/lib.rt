@@ -1,0 +1,143 @@
+// Standard input, line by line, through a buffer that the caller lends.
+use libc::STDIN_FILENO;
+ghost use mathlib.Core.Path.{_≡_};
+ghost use mathlib.Core.Bool.{Bool, true, false};
+ghost use Prim.Native.Nat.{_≤_, _-_};
+ghost use lib.ListN.{length};
+ghost use Rattle.lines.specs.Lines.{Within, lineOf, lastOf};
+
+// What was read and not yet given lies from `at` to `have` in the buffer.
+pub struct Input {
+    pub at: usize,
+    pub have: usize,
+    // The first bytes of this line were dropped, since it is too long.
+    pub long: bool,
+    pub more: bool,
+}
+
+pub enum Line {
+    // It lies from `start` to `end` in the buffer.
+    At { start: usize, end: usize },
+    // It has more than 1,024 bytes.
+    TooLong,
+    // No line is whole yet, or none is left.
+    Nothing,
+}
+
+pub struct Step {
+    pub input: Input,
+    pub line: Line,
+}
+
+// Nothing was read yet.
+pub fn start() -> Input
+    ensures { λ r. ⌜ (r .at ≡ 0) × (r .have ≡ 0) × (r .long ≡ false) × (r .more ≡ true) ⌝ }
+{
+    Input {
+        at: 0,
+        have: 0,
+        long: false,
+        more: true,
+    }
+}
+
+// A whole line, given that it is not too long.
+fn whole(long: bool, start: usize, end: usize) -> Line
+    requires { ⌜ start ≤ end ⌝ }
+    ensures { λ r. ⌜ r ≡ lineOf long start end ⌝ }
+{
+    if long {
+        return Line::TooLong;
+    }
+    if end - start > 1024 {
+        return Line::TooLong;
+    }
+    Line::At { start, end }
+}
+
+// The end of the input: the `have` bytes at the front of the buffer are a last line with no line end.
+fn last(have: usize, long: bool) -> Line
+    ensures { λ r. ⌜ r ≡ lastOf long have ⌝ }
+{
+    if long {
+        return Line::TooLong;
+    }
+    if have == 0 {
+        return Line::Nothing;
+    }
+    whole(false, 0, have)
+}
+
+// Bytes that hold no line end: they stay where they can still be a line, and are dropped where they are too many.
+fn kept(s: Input) -> Input
+    requires { ⌜ s .at ≤ s .have ⌝ }
+    ensures { λ r. ⌜ (r .at ≤ r .have) × (r .have ≡ s .have) × (r .have - r .at ≤ 1024) ⌝ }
+{
+    if s.have - s.at > 1024 {
+        Input {
+            at: s.have,
+            have: s.have,
+            long: true,
+            more: true,
+        }
+    } else {
+        s
+    }
+}
+
+// Reads on behind the bytes that are left, which are moved to the front.
+fn refill(s: Input, buf: &mut [u8]) -> Step
+    requires { ⌜ Within s (now buf) ⌝ }
+    ensures { λ r. ⌜ Within (r .input) (now (buf .exit)) ⌝ }
+{
+    let k = kept(s);
+    let start = k.at;
+    let end = k.have;
+    let long = k.long;
+    let left = text::to_front(buf, start, end);
+    let got = libc::read(STDIN_FILENO, &mut buf[left..]);
+    let came = io::count(got, &buf[left..]);
+    if came == 0 {
+        return Step {
+            input: Input {
+                at: 0,
+                have: 0,
+                long: false,
+                more: false,
+            },
+            line: last(left, long),
+        };
+    }
+    Step {
+        input: Input {
+            at: 0,
+            have: left + came,
+            long,
+            more: true,
+        },
+        line: Line::Nothing,
+    }
+}
+
+// The next line, or more bytes where no line is whole. After the last line `more` is false.
+pub fn next_line(s: Input, buf: &mut [u8]) -> Step
+    requires { ⌜ Within s (now buf) ⌝ }
+    ensures { λ r. ⌜ Within (r .input) (now (buf .exit)) ⌝ }
+{
+    let at = s.at;
+    let have = s.have;
+    let n = text::find(&buf[at..have], b'\n');
+    if n == have - at {
+        return refill(s, buf);
+    }
+    let end = at + n;
+    Step {
+        input: Input {
+            at: end + 1,
+            have,
+            long: false,
+            more: true,
+        },
+        line: whole(s.long, at, end),
+    }
+}

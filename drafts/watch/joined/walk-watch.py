@@ -1,0 +1,272 @@
+# What tools/walk.py is told of crate `watch` (see its head).
+USES = '''
+use mathlib.Core.Bool.{Bool, true, false, cond, not, _||_}
+use lib.Dec.{leb, eqb}
+use borrow.Author.Tests.{leb-true, leb-false, not-true, not-false}
+use Rattle.table.specs.Rows.{NONE}
+use Rattle.receiver.specs.declared.Part.{Part}
+use Rattle.watch.specs.declared.Row.{Row}
+use Rattle.watch.specs.declared.Ends.{Ends}
+use Rattle.watch.specs.declared.Key.{Key}
+use Rattle.watch.specs.declared.Look.{Look}
+use Rattle.watch.specs.Read.{Looked, endsIs, endsOf}
+use Rattle.watch.specs.Links.{blank, unmade, withNext, withPrev, withLinks, withPart, nexted, preved, outEnds, unlinkedRows, unlinkedEnds, linkedRows, linkedEnds, withFree, releasedRows, releasedEnds, touchedRows, touchedEnds, markedRows, markedEnds, roomRows, roomEnds, takenRows, takenEnds, enteredRows, enteredEnds, madeRow, keptSeat, madeSeat, seatOf, seatedRows, freshFrom, freshEnds}
+use Rattle.watch.specs.Search.{sizesOf, startOf, scanned, lookOf, isNo, atOf, isUnfit, numberOf}
+use Rattle.watch.proofs.Tables.{get-out, put-out, room-no, room-yes, seat-made, seat-kept}
+use Rattle.watch.proofs.Looks.{looks, looks-not}
+use Rattle.watch.proofs.Types.{R, index, link, row, cursor, ends, key, part, seat, looked, answer-datum, move-datum, count-datum, claimed-datum, claiming-datum, hearing-datum, position-datum, judgment-datum, heard-datum}
+use lib.ListN.{take, drop, replicate}
+use lib.Seq.{sets}
+use Prim.Native.Nat.{_*_, _+_}
+use Rattle.cells.specs.Cells.{emptyWord}
+use Rattle.sites.specs.declared.Claimed.{Claimed}
+use Rattle.near_field.specs.declared.Judgment.{Judgment}
+use Rattle.receiver.specs.declared.Position.{Position}
+use Rattle.receiver.specs.Heard.{width, emptyCells, siteFits, claimed, positioned}
+use Rattle.receiver.specs.Answers.{claimingIs, hearingIs, HearingFits}
+use Rattle.watch.specs.Answers.{noKey, saying, freeing, checkAnswer, isRefused, claimPart, isUnheard, hearNo, hearPart}
+use Rattle.watch.specs.Moves.{emptiedAt, staying, seatMove, ClaimedRow, by-look, countedAt, HeardRow, judgedAt, judgedRow, judgedAs, judgedRows, checkedAs, removeMove, removedRows, oldestLook}
+use Rattle.watch.proofs.Looked.{held-site, fit-site, look-room}
+use Rattle.watch.proofs.Entries.{claim-left, claim-kept, hear-none, hear-left, hear-kept, judge-none, judge-kept, check-none, check-kept, remove-none, remove-kept, check-so, judging-so, take-room, take-so, drop-room, drop-so, claim-room, claim-so, position-room, position-so}
+use Rattle.watch.proofs.Making.{fresh-no, fresh-yes}
+use Rattle.watch.specs.declared.Look.the-variants as L
+use Rattle.receiver.specs.declared.Hearing.the-variants as Hearings
+use Rattle.watch.specs.declared.Word.the-variants as Wd
+'''
+TYPES = {'Row': 'row', 'Cursor': 'cursor', 'Ends': 'ends', 'Key': 'key', 'Part': 'part', 'Seat': 'seat', 'Look': 'looked', 'Answer': 'answer-datum', 'Claimed': 'claimed-datum', 'Claiming': 'claiming-datum', 'Hearing': 'hearing-datum',
+    'Position': 'position-datum', 'Judgment': 'judgment-datum', 'Heard': 'heard-datum', 'Move': 'move-datum', 'Count': 'count-datum', 'tyInt 64': 'index', 'tyInt 32': 'link', 'tyBool': 'truth', 'tyUnit': 'none'}
+NUMBERS = ('index', 'link')
+ELEMENTS = {'Row': 'R', 'tyInt 32': 'u32', 'tyArray tyInt 32 lenLit 3': '(Array u32 3)'}
+# what each callee ensures: r the result, zs the list left, {xs} the list lent, {0} {1} .. the plain arguments
+SAYS = {
+    'wide': 'r ≡ {0}',
+    'outside': 'r ≡ leb {1} {0}',
+    'unmade': 'r ≡ blank',
+    'row_at': 'r ≡ getD {xs} {0} blank',
+    'put_row': 'zs ≡ set {xs} {0} {1}',
+    'get': 'r ≡ getD {xs} {0} blank',
+    'put': 'zs ≡ set {xs} {0} {1}',
+    'with_next': 'r ≡ withNext {0} {1}',
+    'with_prev': 'r ≡ withPrev {0} {1}',
+    'with_links': 'r ≡ withLinks {0} {1} {2}',
+    'with_part': 'r ≡ withPart {0} {1}',
+    'set_next': 'zs ≡ nexted {xs} {0} {1}',
+    'set_prev': 'zs ≡ preved {xs} {0} {1}',
+    'next_of': 'r ≡ {0} .next',
+    'prev_of': 'r ≡ {0} .prev',
+    'no_row': 'r ≡ NONE',
+    'tail_of': 'r ≡ {0} .tail',
+    'head_of': 'r ≡ {0} .head',
+    'free_of': 'r ≡ {0} .free',
+    'out_ends': 'r ≡ outEnds {0} {1} {2}',
+    'linked_ends': 'r ≡ linkedEnds {0} {1}',
+    'with_free': 'r ≡ withFree {0} {1}',
+    'same_ends': 'r ≡ {0}',
+    'has_free': 'r ≡ not (eqb ({0} .free) NONE)',
+    'unmade_row': 'r ≡ unmade {0}',
+    'made_row': 'r ≡ madeRow {0} {1} {2}',
+    'unlink': '(r ≡ unlinkedEnds {xs} {0} {1}) × (zs ≡ unlinkedRows {xs} {1})',
+    'link_last': '(r ≡ linkedEnds {0} {1}) × (zs ≡ linkedRows {xs} {0} {1})',
+    'release': '(r ≡ releasedEnds {xs} {0} {1}) × (zs ≡ releasedRows {xs} {0} {1})',
+    'touch': '(r ≡ touchedEnds {xs} {0} {1}) × (zs ≡ touchedRows {xs} {0} {1})',
+    'mark': '(r ≡ markedEnds {xs} {0} {1} {2}) × (zs ≡ markedRows {xs} {0} {1} {2})',
+    'make_room': '(r ≡ roomEnds {xs} {0}) × (zs ≡ roomRows {xs} {0})',
+    'take_free': '(r ≡ takenEnds {xs} {0}) × (zs ≡ takenRows {xs} {0} {1} {2})',
+    'enter': '(r ≡ enteredEnds {xs} {0}) × (zs ≡ enteredRows {xs} {0} {1} {2})',
+    'oldest': 'r ≡ getD {xs} ({0} .head) blank',
+    'kept_seat': 'r ≡ keptSeat {0} {1}',
+    'made_seat': 'r ≡ madeSeat {0} {1} {2}',
+    'is_no': 'r ≡ isNo {0}',
+    'at_of': 'r ≡ atOf {0}',
+    'scan': 'r ≡ scanned {xs} {0}',
+    'sizes_fit': 'r ≡ sizesOf {0} {1}',
+    'negated': 'r ≡ not {0}',
+    'no_one': 'r ≡ L.No 1',
+    'used_start': 'r ≡ startOf {0} ({1} .head) true {2}',
+    'free_start': 'r ≡ startOf {0} ({1} .free) false {2}',
+    'look_of': 'r ≡ lookOf {0} ({1} .tail) {2} {3}',
+    'ends_of': '(endsOf r ≡ endsIs {xs}) × (zs ≡ {xs})',
+    'keep': 'endsIs zs ≡ endsOf {0}',
+    'keep_move': 'endsIs zs ≡ endsOf ({0} .ends)',
+    'keep_count': 'endsIs zs ≡ endsOf ({0} .ends)',
+    'empty_move': 'zs ≡ emptiedAt {xs} ({0} .clear)',
+    'count_at': 'zs ≡ countedAt {xs} {0}',
+    'answer_of': 'r ≡ {0} .answer',
+    'answered': 'r ≡ {0} .answer',
+    'look_up': 'Looked {xs} {0} {1} {2} r',
+    'unfit': 'r ≡ isUnfit {0}',
+    'no_to': 'r ≡ saying (Wd.Refused (numberOf {0}))',
+    'found': 'r ≡ getD {xs} (atOf {0}) blank',
+    'insert_active': '(r ≡ seatOf {xs} {0} {1} {3}) × (zs ≡ seatedRows {xs} {0} {1} {2} {3})',
+    'freed_row': 'r ≡ freeing ({0} .key)',
+    'zero_key': 'r ≡ noKey',
+    'done': 'r ≡ saying Wd.Done',
+    'no_first': 'r ≡ saying (Wd.Refused 1)',
+    'fresh_rows': 'zs ≡ freshFrom {0} 0 (length {xs})',
+    'fresh_cells': 'zs ≡ replicate (length {xs}) emptyWord',
+    'fresh_ends': 'r ≡ freshEnds',
+    'unfit_move': 'r ≡ staying {0} (saying (Wd.Refused (numberOf {1})))',
+    'outside_move': 'r ≡ staying {0} (saying (Wd.Refused 4))',
+    'moving': 'r ≡ record {{ ends = {0}; clear = {1}; answer = {2} }}',
+    'claiming': '((l : List ℕ) → claimingIs r l ≡ claimed ({0} .part .heard) l {1})',
+    'is_refused': 'r ≡ isRefused {0}',
+    'claim_part': 'r ≡ claimPart ({0} .part) {1}',
+    'seat_move': 'r ≡ seatMove {0} {1}',
+    'claim_row': 'ClaimedRow {xs} {0} {1} {2} {3} r zs',
+    'hear': '((l : List ℕ) → hearingIs r l ≡ positioned ({0} .part .heard) l {1}) × HearingFits r',
+    'is_unheard': 'r ≡ isUnheard {0}',
+    'hear_part': 'r ≡ hearPart ({0} .part) {1}',
+    'uncounted': 'r ≡ record {{ ends = {0}; at = 0; hearing = Hearings.Late; answer = saying (Wd.Refused (numberOf {1})) }}',
+    'unheard': 'r ≡ record {{ ends = {0}; at = {1}; hearing = {2}; answer = saying (Wd.Refused (hearNo {2})) }}',
+    'counted': 'r ≡ record {{ ends = {0}; at = {1}; hearing = {2}; answer = saying Wd.Done }}',
+    'hear_row': 'HeardRow {xs} {0} {1} {2} r zs',
+    'heard_in': 'r ≡ {0} .part .heard',
+    'heard_at': 'r ≡ getD {xs} (atOf {0}) blank .part .heard',
+    'judge_at': 'r ≡ judgedAt {0} {1} {xs} {2} {3}',
+    'judged_part': 'r ≡ judgedRow {0} {1}',
+    'judged': 'r ≡ saying (Wd.Judged {0})',
+    'judge_row': '(r ≡ judgedAs {0} {1}) × (zs ≡ judgedRows {xs} {0} {1})',
+    'check_answer': 'r ≡ checkAnswer ({0} .part .verdict)',
+    'check_row': 'r ≡ checkedAs {0} (getD {xs} (atOf {0}) blank .part .verdict)',
+    'remove': '(r ≡ removeMove {xs} {0} {1}) × (zs ≡ removedRows {xs} {0} {1})',
+    'oldest_of': 'r ≡ oldestLook {0} {1}',
+}
+X = [('xs', 'List Row'), ('e', 'Ends'), ('i', 'ℕ')]
+KP = [('k', 'Key'), ('p', 'Part')]
+# of two equations: the calls' pairs are taken apart, congruence closure does the rest
+def pairs(*ns): return '(%s (cc, cc))' % ' '.join('let a%d = e%d .0 in let b%d = e%d .1 in' % (n, n, n, n) for n in ns)
+AT = [('xs', 'List Row'), ('at n', 'ℕ')]
+W3 = [('xs', 'List Row'), ('ys ws', 'List ℕ')]
+K = ('k', 'Key')
+EL = [('xs', 'List Row'), ('e', 'Ends'), ('l', 'Look')]
+# a watch whose ends were read by call 1 and that call 2 looked at
+SEEN = 'xs ys ws r1 k r2 (e1 .0) e2'
+DROP = 'xs ys ws r1 r2 r3 (e1 .0) e3'
+FOUND = 'siteFits (getD xs (atOf %s) blank .part .heard .site) ≡ true'
+FUNCTIONS = {
+    'get': {
+        'params': ['xs', 'at'],
+        'types': [('xs', 'List Row'), ('at', 'ℕ')],
+        'needs': {4: '(leb-false (length xs) r1 (sym e2 ∙ no1))'},
+        'arms': {1: '(e3 ∙ get-out xs at r1 e1 (leb-true (length xs) r1 (sym e2 ∙ yes1)))'},
+        'exit': '(cc)',
+    },
+    'put': {
+        'params': ['xs', 'at', 'x'],
+        'types': [('xs', 'List Row'), ('at', 'ℕ'), ('x', 'Row')],
+        'needs': {3: '(leb-false (length xs) r1 (sym e2 ∙ no1))'},
+        'arms': {1: '(put-out xs at r1 x e1 (leb-true (length xs) r1 (sym e2 ∙ yes1)))'},
+        'exit': '(cc)',
+    },
+    'set_next': {'params': ['xs', 'at', 'n'], 'types': AT, 'exit': '(cc)'},
+    'set_prev': {'params': ['xs', 'at', 'n'], 'types': AT, 'exit': '(cc)'},
+    'unlink': {'params': ['xs', 'e', 'i'], 'types': X, 'exit': '(cc, cc)'},
+    'link_last': {'params': ['xs', 'e', 'i'], 'types': X, 'exit': '(cc, cc)'},
+    'release': {'params': ['xs', 'e', 'i'], 'types': X, 'exit': pairs(1)},
+    'touch': {'params': ['xs', 'e', 'i'], 'types': X, 'exit': pairs(1, 2)},
+    'mark': {'params': ['xs', 'e', 'i', 'p'], 'types': X + KP[1:], 'exit': pairs(4)},
+    'make_room': {
+        'params': ['xs', 'e'],
+        'types': X[:2],
+        'arms': {1: '(room-no xs e r2 (sym e1 ∙ yes1) e2)'},
+        'exit': '(room-yes xs e r3 r4 zs4 (sym e1 ∙ no1) e3 e4)',
+    },
+    'take_free': {'params': ['xs', 'e', 'k', 'p'], 'types': X[:2] + KP, 'exit': pairs(7)},
+    'enter': {'params': ['xs', 'e', 'k', 'p'], 'types': X[:2] + KP, 'exit': pairs(1, 2)},
+    'found': {'params': ['xs', 'l'], 'types': [('xs', 'List Row'), ('l', 'Look')], 'exit': '(cc)'},
+    'oldest': {'params': ['xs', 'e'], 'types': X[:2], 'exit': '(cc)'},
+    'insert_active': {
+        'params': ['xs', 'e', 'l', 'k', 'p'],
+        'types': X[:2] + [('l', 'Look')] + KP,
+        'arms': {1: '(seat-made xs e l k p r2 r3 zs3 r4 (sym e1 ∙ yes1) e2 e3 e4)'},
+        'exit': '(seat-kept xs e l k p r5 r6 zs6 r7 (sym e1 ∙ no1) e5 e6 e7)',
+    },
+    'look_up': {
+        'params': ['xs', 'm', 'e', 'k'],
+        'types': [('xs', 'List Row'), ('m', 'ℕ'), ('e', 'Ends'), ('k', 'Key')],
+        'arms': {1: '(looks-not xs m e k r1 r3 e1 (not-true r1 (sym e2 ∙ yes1)) e3)'},
+        'exit': '(looks xs m e k r1 r5 r7 r8 e1 (not-false r1 (sym e2 ∙ no1)) (e5 ∙ ap (scanned xs) e4) (e7 ∙ ap (scanned xs) e6) e8)',
+    },
+    # on the rows alone
+    'heard_at': {'params': ['xs', 'l'], 'types': [('xs', 'List Row'), ('l', 'Look')], 'exit': '(e2 ∙ ap (λ (x : Row). x .part .heard) e1)'},
+    'check_row': {
+        'params': ['xs', 'l'],
+        'types': [('xs', 'List Row'), ('l', 'Look')],
+        'arms': {1: '(check-none l (getD xs (atOf l) blank .part .verdict) r2 (sym e1 ∙ yes1) e2)'},
+        'exit': '(check-kept xs l r3 r4 (sym e1 ∙ no1) e3 e4)',
+    },
+    'judge_row': {
+        'params': ['xs', 'l', 'j'],
+        'types': [('xs', 'List Row'), ('l', 'Look'), ('j', 'Judgment')],
+        'arms': {1: '(judge-none xs l j r2 (sym e1 ∙ yes1) e2)'},
+        'exit': '(judge-kept xs l j r3 r4 r5 zs6 r7 (sym e1 ∙ no1) e3 e4 e5 e6 e7)',
+    },
+    'remove': {
+        'params': ['xs', 'e', 'l'],
+        'types': EL,
+        'arms': {1: '(remove-none xs e l r2 (sym e1 ∙ yes1) e2)'},
+        'exit': '(remove-kept xs e l r3 r4 r5 zs5 r6 r7 (sym e1 ∙ no1) e3 e4 e5 e6 e7)',
+    },
+    'claim_row': {
+        'params': ['xs', 'e', 'l', 'k', 's'],
+        'types': EL + [K, ('s', 'Claimed')],
+        'requires': '(isUnfit l ≡ false → ' + FOUND % 'l' + ')',
+        'requires_at': '(isUnfit (a .1 .0) ≡ false → ' + FOUND % '(a .1 .0)' + ')',
+        'needs': {4: '(ap (λ (x : Row). siteFits (x .part .heard .site)) e3 ∙ pre (sym e1 ∙ no1))'},
+        'arms': {
+            1: '(by-look (sym e1 ∙ yes1) e2 refl)',
+            2: '(claim-left xs e l k s r3 r4 r6 (sym e1 ∙ no1) e3 e4 (sym e5 ∙ yes2) e6)',
+        },
+        'exit': '(claim-kept xs e l k s r3 r4 r7 r8 zs8 r9 (sym e1 ∙ no1) e3 e4 (sym e5 ∙ no2) e7 e8 e9)',
+    },
+    'hear_row': {
+        'params': ['xs', 'e', 'l', 'p'],
+        'types': EL + [('p', 'Position')],
+        'requires': '(isNo l ≡ false → ' + FOUND % 'l' + ')',
+        'requires_at': '(isNo (a .1 .0) ≡ false → ' + FOUND % '(a .1 .0)' + ')',
+        'needs': {5: '(ap (λ (x : Row). siteFits (x .part .heard .site)) e3 ∙ pre (sym e1 ∙ no1))'},
+        'arms': {
+            1: '(hear-none xs e l p r2 (sym e1 ∙ yes1) e2)',
+            2: '(hear-left xs e l p r3 r4 r5 r7 (sym e1 ∙ no1) e3 e5 (sym e6 ∙ yes2) e7)',
+        },
+        'exit': '(hear-kept xs e l p r3 r4 r5 r8 r9 zs9 r10 (sym e1 ∙ no1) e3 e4 e5 (sym e6 ∙ no2) e8 e9 e10)',
+    },
+    # the entries
+    'fresh': {
+        'params': ['xs', 'ys', 'ws'],
+        'types': W3,
+        'arms': {1: '(fresh-no xs ys ws r1 r3 e1 (not-true r1 (sym e2 ∙ yes1)) e3)'},
+        'exit': '(fresh-yes xs ys ws r1 zs4 zs5 zs7 r6 r8 e1 (not-false r1 (sym e2 ∙ no1)) e4 e5 e6 e7 e8)',
+    },
+    'claim': {
+        'params': ['xs', 'ys', 'ws', 'k', 's'],
+        'types': W3 + [K, ('s', 'Claimed')],
+        'needs': {3: '(λ f. fit-site ' + SEEN + ' f (getD xs (atOf r2) blank) refl)', 4: '(claim-room ' + SEEN + ' s r3 zs3 e3)'},
+        'exit': '(claim-so ' + SEEN + ' s r3 zs3 zs4 zs5 r6 e3 e4 e5 e6)',
+    },
+    'position': {
+        'params': ['xs', 'ys', 'ws', 'k', 'p'],
+        'types': W3 + [K, ('p', 'Position')],
+        'needs': {3: '(λ n. held-site ' + SEEN + ' n (getD xs (atOf r2) blank) refl)', 4: '(position-room ' + SEEN + ' p r3 zs3 e3)'},
+        'exit': '(position-so ' + SEEN + ' p r3 zs3 zs4 zs5 r6 e3 e4 e5 e6)',
+    },
+    'judging': {
+        'params': ['xs', 'ys', 'ws', 'k', 't', 'n'],
+        'types': W3 + [K, ('t n', 'ℕ')],
+        'needs': {4: '(look-room ' + SEEN + ')'},
+        'exit': '(judging-so ' + SEEN + ' t n r3 r4 zs5 r5 zs1 e3 e4 e5 (e1 .1))',
+    },
+    'check': {'params': ['xs', 'ys', 'ws', 'k'], 'types': W3 + [K], 'exit': '(check-so ' + SEEN + ' r3 zs1 (e1 .1) e3)'},
+    'take_out': {
+        'params': ['xs', 'ys', 'ws', 'k'],
+        'types': W3 + [K],
+        'needs': {4: '(take-room ' + SEEN + ' r3 (e3 .0))'},
+        'exit': '(take-so ' + SEEN + ' r3 zs3 zs4 zs5 r6 e3 e4 e5 e6)',
+    },
+    'drop_oldest': {
+        'params': ['xs', 'ys', 'ws'],
+        'types': W3,
+        'needs': {6: '(drop-room ' + DROP + ' r4 r5 e4 (e5 .0))'},
+        'exit': '(drop-so ' + DROP + ' r4 r5 zs5 zs6 zs7 r8 e4 e5 e6 e7 e8)',
+    },
+}

@@ -1,0 +1,12 @@
+pub mod Types
+pub mod RowLaws
+pub mod Laws
+pub mod Scans
+pub mod Tables
+pub mod Chains
+pub mod Looks
+pub mod Filled
+pub mod Looked
+pub mod Entries
+pub mod Making
+pub mod Meets
