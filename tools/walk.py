@@ -27,9 +27,12 @@ KAP = ['κ', 'q', 'γ', 'b', 'o'] if nrefs == 1 else None
 sub = lambda s, i: s + '₁₂₃'[i] if nrefs > 1 else s
 kap = lambda i: tuple(sub(s, i) for s in 'κqγbo')
 
+fitted = []                               # the declared types of the locals
 def typed(d, v, fact):
     if d in W['NUMBERS']: return '(tt, record { fits = %s .1 })' % fact
-    return '(tt, tt)' if d in ('truth', 'none') else '(%s .lawful 𝓤 H A W .typed %s _ %s .0)' % (d, v, fact)
+    if d in ('truth', 'none'): return '(tt, tt)'
+    if d not in fitted: fitted.append(d)
+    return '(fits-%s %s %s)' % (d, v, fact)
 
 def ld(ks, plus=0):
     s = '(no-more !)'
@@ -175,26 +178,28 @@ known = lambda g: '    (known 𝓤 H 𝓜 𝓖 𝓡 %s.signature (%s.spec 𝓤 H
 ent_ = '⋆ 𝓤 H A (%s)' % have
 text = '''-- `%s::%s` meets its contract: a walk of its MIR, written by tools/walk.py. All that it knows of the callees is that they meet their contracts;
 -- %s
-use Rattle.walks.proofs.Kit.{_≡_, refl, sym, _∙_, ap, subst, ℕ, _<_, _≤_, List, [], _∷_, length, getD, set, URA, named, Val, vptr, vint, SProp, ent, sep, sem, emp, id⊢, via, fst∗, snd∗, Lft, Share, GName, flft, Memory, Routine, Heap, Calls, Loops, WpFn, Atoms, Fun, factI, Given, ⋆, ‵, _$_, _∵_, !, qed, by, move, look, init, store, stop, hop, fld, from, load, unit-lit, addr, of-opd, bin, and-then, no-more, assigns, land, returns, returns-within, enter, alloc1, alloc0, params1, pass1, pass0, free0, whole, sub, agg, look-in, FmC, Is, u32, Array, MutSlice, ShrSlice, sliceVal, Room, Meets, needs, ref-at, thin-at, call-plain, call-shared, call-view, call-mut, call-ref, guards, the-given, the-tables, known, framed, mut-closed, shr-closed, none, truth, out, out-room, mut-exits, MutPost, shr-exits, ShrPost, needs-first, Held, three-exits, ThreePost, three-closed}
+use Rattle.walks.proofs.Kit.{Head, Ty, entry, spelled, Fits, _≡_, refl, sym, _∙_, ap, subst, ℕ, _<_, _≤_, List, [], _∷_, length, getD, set, URA, named, Val, vptr, vint, SProp, ent, sep, sem, emp, id⊢, via, fst∗, snd∗, Lft, Share, GName, flft, Memory, Routine, Heap, Calls, Loops, WpFn, Atoms, Fun, factI, Given, ⋆, ‵, _$_, _∵_, !, qed, by, move, look, init, store, stop, hop, fld, from, load, unit-lit, addr, of-opd, bin, and-then, no-more, assigns, land, returns, returns-within, enter, alloc1, alloc0, params1, pass1, pass0, free0, whole, sub, agg, look-in, FmC, Is, u32, Array, MutSlice, ShrSlice, sliceVal, Room, Meets, needs, ref-at, thin-at, call-plain, call-shared, call-view, call-mut, call-ref, guards, the-given, the-tables, known, framed, mut-closed, shr-closed, none, truth, out, out-room, mut-exits, MutPost, shr-exits, ShrPost, needs-first, Held, three-exits, ThreePost, three-closed}
 %s
 %suse Rattle.%s.proofs.%s.Key.{name}
 use Rattle.%s.proofs.%s as %s
 use Rattle.%s.proofs.%s.Statement as stated
 use Rattle.%s.proofs.%s.Code as code
+use Rattle.%s.proofs.%s.Code.Mir as written
 
 module _ {M : Type 1} (𝓤 : URA M) (H : Heap 𝓤) (A : Atoms 𝓤) (W : Given 𝓤 H A) (mem : Memory → SProp 𝓤) (run : Routine → Fun 𝓤) (C : Calls 𝓤 H) (Λ : Loops 𝓤 H) (fm : FmC 𝓤 H (W .laws) C)
+    (σ : Head → Ty)%s
     %s
     %s %s where
   walk : %s%s%s
       → ent 𝓤 (%s)
-      (WpFn 𝓤 H C Λ code.function (%s%s ∷ []) (%s))
+      (WpFn 𝓤 H C Λ (spelled σ written.by-name) (%s%s ∷ []) (%s))
   walk %s%s%s =
-      qed W (%s) ∵ enter ! C Λ code.function _ _ $
+      qed W (%s) ∵ enter ! C Λ (spelled σ written.by-name) _ _ $
       %salloc0 ! $ params1 ! $ %s pass0 ! $ move ! (%s ∷ []) $
       -- [of each reference, what it owns and its token; _%d; …; …; _1; …; room for _0; …]: local k stands at %d - 2 k
       %s''' % (
-    crate, fn, D.get('why', 'their equations put together are what the function ensures.'), W['USES'].strip(), ''.join(map(cal, callees)), crate, fn, crate, fn, m, crate, fn, crate, fn,
-    ' '.join(map(met, callees)), binds, bindtypes, rooms, ''.join(' → ' + is_(p) for p in pars), ' → ' + req if req else '',
+    crate, fn, D.get('why', 'their equations put together are what the function ensures.'), W['USES'].strip(), ''.join(map(cal, callees)), crate, fn, crate, fn, m, crate, fn, crate, fn, crate, fn,
+    ''.join(' (fits-%s : Fits σ %s)' % (d, d) for d in fitted), ' '.join(map(met, callees)), binds, bindtypes, rooms, ''.join(' → ' + is_(p) for p in pars), ' → ' + req if req else '',
     ent_, sv, ''.join(' ∷ %s .val %s' % (p[1], p[0]) for p in pars), post,
     ' '.join(sub('room', i) for i in range(nrefs) if '[' in refs[i]), ''.join(' ' + p[0] + '-is' for p in pars), ' pre' if req else '', have,
     ''.join('alloc1 ! (λ l%d. ' % k for k in range(N)), ' '.join(passes), ' ∷ '.join(str(2 * N + j) for j in range(T)), N - 1, P(0), '\n      '.join(out))
@@ -202,7 +207,7 @@ code_only = '\n'.join(l for l in text.split('\n\nmodule')[1].split('\n') if not 
 text += ')' * (code_only.count('(') - code_only.count(')'))
 fit = ' '.join('(fit%s .0)' % (' .1' * j) for j in range(len(pars)))
 pa = ' '.join('(a%s .0)' % (' .1' * j) for j in range(len(pars)))
-head = '(walk 𝓤 H (𝓖 .A) (the-given 𝓤 H 𝓜 𝓖 𝓡) (𝓜 .mem) (𝓡 .run) (the-tables 𝓤 H 𝓜 𝓖 𝓡 code.env .C) (the-tables 𝓤 H 𝓜 𝓖 𝓡 code.env .Λ) (framed 𝓤 H 𝓜 𝓖 𝓡 code.env)\n' + ''.join(map(known, callees))
+head = '(walk 𝓤 H (𝓖 .A) (the-given 𝓤 H 𝓜 𝓖 𝓡) (𝓜 .mem) (𝓡 .run) (the-tables 𝓤 H 𝓜 𝓖 𝓡 code.env .C) (the-tables 𝓤 H 𝓜 𝓖 𝓡 code.env .Λ) (framed 𝓤 H 𝓜 𝓖 𝓡 code.env) (entry written.table)%s\n' % ''.join(' (λ x is. %s .lawful 𝓤 H (𝓖 .A) (the-given 𝓤 H 𝓜 𝓖 𝓡) .typed x _ is .0)' % d for d in fitted) + ''.join(map(known, callees))
 rq = D.get('requires_at')
 if nrefs == 1:
     text += '''
