@@ -7,13 +7,13 @@ use Prim.Native.Nat.{ℕ, _-_, _^_, _<_, _≤_}
 use lib.ListN.{length}
 use borrow.Author.Tests.{eq-eqb, ne-eqb, lt-ltb, le-ltb}
 use lib.Ieee.{Float}
-use Rattle.text.specs.Text.{textEnd, fieldAt, partOf, sameBytes}
-use Rattle.text.specs.Numbers.{wholeOf, signedOf, realOf}
-use Rattle.text.proofs.Values.{whole-within}
-use Rattle.text.specs.declared.fields.Field.{Field}
-use Rattle.text.specs.declared.numbers.Number.{Number}
-use Rattle.text.specs.declared.numbers.Number.the-variants as number
-use Rattle.text.specs.declared.numbers.Signed.the-variants as signed
+use Rattle.fields.specs.Text.{textEnd, fieldAt, partOf, sameBytes}
+use Rattle.numbers.specs.Numbers.{wholeOf, signedOf, realOf}
+use Rattle.numbers.proofs.Values.{whole-within}
+use Rattle.fields.specs.declared.Field.{Field}
+use Rattle.numbers.specs.declared.Number.{Number}
+use Rattle.numbers.specs.declared.Number.the-variants as number
+use Rattle.numbers.specs.declared.Signed.the-variants as signed
 use Rattle.cells.specs.Cells.{bucketOf}
 use Rattle.cells.specs.declared.Height.{Height}
 use Rattle.cells.specs.declared.Height.the-variants.{Known}
@@ -22,8 +22,8 @@ use native.Mathlib.Omega.{arith}
 use lib.IntN.{ℤ}
 use Rattle.calls.specs.declared.read.HeightAt.the-variants as height
 use Rattle.calls.specs.declared.read.WholeAt.the-variants as whole
-use Rattle.text.specs.declared.fields.Field.the-variants.{At, Stray, End}
-use Rattle.text.specs.declared.numbers.Real.the-variants as real
+use Rattle.fields.specs.declared.Field.the-variants.{At, Stray, End}
+use Rattle.numbers.specs.declared.Real.the-variants as real
 use Rattle.floats.specs.Horizon.{horizon}
 use Rattle.sites.specs.Sites.{held, samePlace}
 use Rattle.sites.specs.declared.Site.{Site}

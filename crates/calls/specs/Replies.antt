@@ -6,16 +6,16 @@ use lib.ListN.{length, getD}
 use lib.Dec.{eqb, ltb}
 use lib.Count.{trailingZeros}
 use lib.Ieee.{Float}
-use Rattle.text.specs.Text.{textEnd, fieldAt, partOf, sameBytes}
-use Rattle.text.specs.Numbers.{wholeOf, signedOf, realOf}
-use Rattle.text.specs.declared.fields.Field.{Field}
-use Rattle.text.specs.declared.fields.Field.the-variants.{At, Stray, End}
-use Rattle.text.specs.declared.numbers.Real.{Real}
-use Rattle.text.specs.declared.numbers.Real.the-variants as real
-use Rattle.text.specs.declared.numbers.Number.{Number}
-use Rattle.text.specs.declared.numbers.Number.the-variants as number
-use Rattle.text.specs.declared.numbers.Signed.{Signed}
-use Rattle.text.specs.declared.numbers.Signed.the-variants as signed
+use Rattle.fields.specs.Text.{textEnd, fieldAt, partOf, sameBytes}
+use Rattle.numbers.specs.Numbers.{wholeOf, signedOf, realOf}
+use Rattle.fields.specs.declared.Field.{Field}
+use Rattle.fields.specs.declared.Field.the-variants.{At, Stray, End}
+use Rattle.numbers.specs.declared.Real.{Real}
+use Rattle.numbers.specs.declared.Real.the-variants as real
+use Rattle.numbers.specs.declared.Number.{Number}
+use Rattle.numbers.specs.declared.Number.the-variants as number
+use Rattle.numbers.specs.declared.Signed.{Signed}
+use Rattle.numbers.specs.declared.Signed.the-variants as signed
 use Rattle.cells.specs.Cells.{bucketOf, aircraftBit}
 use Rattle.cells.specs.declared.Height.{Height}
 use Rattle.cells.specs.declared.Height.the-variants.{Known}

@@ -29,7 +29,7 @@ fn room(out: &[u8], n: usize) -> usize
     ensures { λ r. ⌜ (r ≤ n) × (r ≤ 65000) ⌝ }
 {
     if n > 65000 {
-        io::write_all(STDOUT_FILENO, text::part(out, 0, n));
+        io::write_all(STDOUT_FILENO, fields::part(out, 0, n));
         0
     } else {
         n
@@ -60,7 +60,7 @@ fn answer(line: &[u8], long: bool, number: u64, out: &mut [u8], n: usize) -> usi
 fn done(out: &[u8], n: usize) -> State
     ensures { λ r. ⌜ (r .at ≡ 0) × (r .have ≡ 0) × (r .more ≡ false) ⌝ }
 {
-    io::write_all(STDOUT_FILENO, text::part(out, 0, n));
+    io::write_all(STDOUT_FILENO, fields::part(out, 0, n));
     State {
         at: 0,
         have: 0,
@@ -81,7 +81,7 @@ fn last(s: State, buf: &[u8], out: &mut [u8]) -> State
         }
     }
     let number = std::num::wrapping_add_u64(s.lines, 1);
-    let n = answer(text::part(buf, 0, s.have), s.long, number, out, s.n);
+    let n = answer(fields::part(buf, 0, s.have), s.long, number, out, s.n);
     done(out, n)
 }
 
@@ -112,7 +112,7 @@ fn refill(s: State, buf: &mut [u8], out: &mut [u8]) -> State
     let k = kept(s);
     let start = k.at;
     let end = k.have;
-    let left = text::to_front(buf, start, end);
+    let left = fields::to_front(buf, start, end);
     let got = libc::read(STDIN_FILENO, &mut buf[left..]);
     let came = io::count(got, &buf[left..]);
     let next = State {
@@ -136,7 +136,7 @@ fn step(s: State, buf: &mut [u8], out: &mut [u8]) -> State
 {
     let at = s.at;
     let have = s.have;
-    let n = text::find(&buf[at..have], b'\n');
+    let n = fields::find(&buf[at..have], b'\n');
     if n == have - at {
         return refill(s, buf, out);
     }

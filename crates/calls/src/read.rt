@@ -3,12 +3,12 @@ use crate::reply::Fault;
 use crate::reply::Name;
 use crate::reply::Reply;
 use cells::Height;
+use fields::Field;
+use numbers::Number;
+use numbers::Real;
+use numbers::Signed;
 use sites::Altitude;
 use sites::Site;
-use text::Field;
-use text::Number;
-use text::Real;
-use text::Signed;
 ghost use mathlib.Core.Path.{_≡_};
 ghost use Prim.Native.Nat.{_<_, _^_, _-_};
 ghost use Rattle.calls.specs.Replies.{realAt, heightOf, heightAt, wholeAt, twoAt, restAt, fourAt, siteOf, sameOf, placeBy, sameBy, horizonBy, bucketBy, bitOf, bitBy, callOf, returnAtEnd, textReply, lineReply};
@@ -47,8 +47,8 @@ pub enum Rest {
 fn real_at(t: &[u8], from: usize, name: Name) -> RealAt
     ensures { λ r. ⌜ r ≡ realAt (now (t .entry)) from name ⌝ }
 {
-    match text::next_field(t, from) {
-        Field::At { start, end, next } => match text::read_real(text::part(t, start, end)) {
+    match fields::next_field(t, from) {
+        Field::At { start, end, next } => match numbers::read_real(fields::part(t, start, end)) {
             Real::Is(x) => RealAt::Is(x, next),
             Real::Bad => RealAt::Wrong(Fault::NotNumber(name)),
         },
@@ -61,10 +61,10 @@ fn real_at(t: &[u8], from: usize, name: Name) -> RealAt
 fn height_of(s: &[u8], next: usize, name: Name) -> HeightAt
     ensures { λ r. ⌜ r ≡ heightOf (now (s .entry)) next name ⌝ }
 {
-    if text::same(s, b"-") {
+    if fields::same(s, b"-") {
         return HeightAt::Is(Height::Unknown, next);
     }
-    match text::read_signed(s) {
+    match numbers::read_signed(s) {
         Signed::Is(feet) => HeightAt::Is(Height::Known(feet), next),
         Signed::Bad => HeightAt::Wrong(Fault::NotNumber(name)),
     }
@@ -73,8 +73,8 @@ fn height_of(s: &[u8], next: usize, name: Name) -> HeightAt
 fn height_at(t: &[u8], from: usize, name: Name) -> HeightAt
     ensures { λ r. ⌜ r ≡ heightAt (now (t .entry)) from name ⌝ }
 {
-    match text::next_field(t, from) {
-        Field::At { start, end, next } => height_of(text::part(t, start, end), next, name),
+    match fields::next_field(t, from) {
+        Field::At { start, end, next } => height_of(fields::part(t, start, end), next, name),
         Field::Stray => HeightAt::Wrong(Fault::StraySpace),
         Field::End => HeightAt::Wrong(Fault::Missing(name)),
     }
@@ -83,8 +83,11 @@ fn height_at(t: &[u8], from: usize, name: Name) -> HeightAt
 fn whole_at(t: &[u8], from: usize, most: u64, name: Name) -> WholeAt
     ensures { λ r. ⌜ r ≡ wholeAt (now (t .entry)) from most name ⌝ }
 {
-    match text::next_field(t, from) {
-        Field::At { start, end, next } => match text::read_whole(text::part(t, start, end), most) {
+    match fields::next_field(t, from) {
+        Field::At { start, end, next } => match numbers::read_whole(
+            fields::part(t, start, end),
+            most,
+        ) {
             Number::Is(n) => WholeAt::Is(n, next),
             Number::Bad => WholeAt::Wrong(Fault::NotNumber(name)),
         },
@@ -109,7 +112,7 @@ fn two_at(t: &[u8], from: usize, first: Name, second: Name) -> Two
 fn ended(t: &[u8], from: usize, last: Name) -> Rest
     ensures { λ r. ⌜ r ≡ restAt (now (t .entry)) from last ⌝ }
 {
-    match text::next_field(t, from) {
+    match fields::next_field(t, from) {
         Field::At {
             start: _,
             end: _,
@@ -224,20 +227,20 @@ fn bit_line(t: &[u8], from: usize) -> Reply
 fn call(t: &[u8], end: usize, next: usize) -> Reply
     ensures { λ r. ⌜ r ≡ callOf (now (t .entry)) end next ⌝ }
 {
-    let word = text::part(t, 0, end);
-    if text::same(word, b"place") {
+    let word = fields::part(t, 0, end);
+    if fields::same(word, b"place") {
         return place_line(t, next);
     }
-    if text::same(word, b"same") {
+    if fields::same(word, b"same") {
         return same_line(t, next);
     }
-    if text::same(word, b"horizon") {
+    if fields::same(word, b"horizon") {
         return horizon_line(t, next);
     }
-    if text::same(word, b"bucket") {
+    if fields::same(word, b"bucket") {
         return bucket_line(t, next);
     }
-    if text::same(word, b"bit") {
+    if fields::same(word, b"bit") {
         return bit_line(t, next);
     }
     Reply::Wrong(Fault::Unknown { end })
@@ -260,7 +263,7 @@ fn text_line(t: &[u8]) -> Reply
     if ends_in_return(t) {
         return Reply::Wrong(Fault::StrayReturn);
     }
-    match text::next_field(t, 0) {
+    match fields::next_field(t, 0) {
         Field::At {
             start: _,
             end,
@@ -275,9 +278,9 @@ fn text_line(t: &[u8]) -> Reply
 pub fn line(s: &[u8]) -> Reply
     ensures { λ r. ⌜ r ≡ lineReply (now (s .entry)) ⌝ }
 {
-    let end = text::text_end(s);
+    let end = fields::text_end(s);
     if end == 0 {
         return Reply::Nothing;
     }
-    text_line(text::part(s, 0, end))
+    text_line(fields::part(s, 0, end))
 }

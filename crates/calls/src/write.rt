@@ -2,9 +2,9 @@
 use crate::reply::Fault;
 use crate::reply::Name;
 use crate::reply::Reply;
-use text::put;
-use text::put_bits;
-use text::put_decimal;
+use print::put;
+use print::put_bits;
+use print::put_decimal;
 ghost use mathlib.Core.Path.{_≡_};
 ghost use lib.ListN.{length};
 
@@ -28,7 +28,7 @@ fn put_word(out: &mut [u8], n: usize, word: &[u8]) -> usize
     ensures { λ _. ⌜ length (now (out .exit)) ≡ length (now (out .entry)) ⌝ }
 {
     let m = put(out, n, b"unknown call '");
-    let k = put(out, m, text::part(word, 0, text::shown(word)));
+    let k = put(out, m, fields::part(word, 0, fields::shown(word)));
     put(out, k, b"'")
 }
 
@@ -51,7 +51,7 @@ fn put_fault(out: &mut [u8], n: usize, fault: Fault, line: &[u8]) -> usize
         Fault::StraySpace => put(out, n, b"stray space"),
         Fault::StrayReturn => put(out, n, b"stray carriage return"),
         Fault::TooLong => put(out, n, b"line is longer than 1024 bytes"),
-        Fault::Unknown { end } => put_word(out, n, text::part(line, 0, end)),
+        Fault::Unknown { end } => put_word(out, n, fields::part(line, 0, end)),
     }
 }
 
@@ -77,7 +77,7 @@ fn put_float(out: &mut [u8], n: usize, word: &[u8], value: f64) -> usize
     ensures { λ _. ⌜ length (now (out .exit)) ≡ length (now (out .entry)) ⌝ }
 {
     let a = put(out, n, word);
-    let b = put_bits(out, a, text::bits_of(value));
+    let b = put_bits(out, a, print::bits_of(value));
     put(out, b, b"\n")
 }
 

@@ -3,7 +3,7 @@ use Prim.Native.Nat.{_≤_, _-_}
 use native.Mathlib.Omega.{arith}
 use borrow.Author.Needs.{needs}
 use lib.ListN.{take, drop, length-take}
-use Rattle.text.proofs.Lines.{find-le}
+use Rattle.fields.proofs.Lines.{find-le}
 use Rattle.calls.proofs.input.step.Statement.{statement}
 use Rattle.calls.proofs.input.step.Tie as tie
 

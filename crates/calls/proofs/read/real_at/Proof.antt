@@ -1,7 +1,7 @@
 -- `calls::read::real_at` meets its contract. Each way out is a law of `Reading`, at what the callees answered.
 use mathlib.Core.Path.{sym, ap, _∙_}
 use borrow.Author.Needs.{needs}
-use Rattle.text.specs.Numbers.{realOf}
+use Rattle.numbers.specs.Numbers.{realOf}
 use Rattle.calls.proofs.Reading.{real-is, real-bad, real-stray, real-end}
 use Rattle.calls.proofs.read.real_at.Statement.{statement}
 use Rattle.calls.proofs.read.real_at.Tie as tie

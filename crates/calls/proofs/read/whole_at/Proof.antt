@@ -1,7 +1,7 @@
 -- `calls::read::whole_at` meets its contract. Each way out is a law of `Reading`, at what the callees answered.
 use mathlib.Core.Path.{sym, ap, _∙_}
 use borrow.Author.Needs.{needs}
-use Rattle.text.specs.Numbers.{wholeOf}
+use Rattle.numbers.specs.Numbers.{wholeOf}
 use Rattle.calls.proofs.Reading.{whole-is, whole-bad, whole-stray, whole-end}
 use Rattle.calls.proofs.read.whole_at.Statement.{statement}
 use Rattle.calls.proofs.read.whole_at.Tie as tie

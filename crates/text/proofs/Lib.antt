@@ -1,4 +1,0 @@
-pub mod Lines
-pub mod Values
-pub mod Decimals
-pub mod Printing

@@ -1,4 +1,0 @@
--- The definitions that the contracts cite.
-pub mod Text
-pub mod Numbers
-pub mod Print
