@@ -43,3 +43,6 @@ small-fits z h = record { sfits = omega (arith, mag-le z) }
 -- what a callee is passed is read back from the bits
 pub read-size : (x : ℤ) → SFits w64 x → natAbs (toZ w64 (ofZ w64 x)) ≡ natAbs x
 read-size x f = ap natAbs (toZ-ofZ w64 x f)
+
+pub read-less : (x y : ℤ) → SFits w64 x → SFits w64 y → toZ w64 (ofZ w64 x) -ℤ toZ w64 (ofZ w64 y) ≡ x -ℤ y
+read-less x y f g = rw (toZ-ofZ w64 x f, toZ-ofZ w64 y g)

@@ -1,5 +1,6 @@
 -- `angles::bearing::to_north` meets its contract: X, call by call; 01 names the cosine of lat1 before the sine of lat2.
 -- Assumes nothing.
+use mathlib.Core.Path.{_∙_}
 use borrow.Author.Needs.{needs}
 use lib.IntN.{pos}
 use Rattle.angles.specs.Value.{value}
@@ -20,7 +21,10 @@ diff-requires : tie.Need-diff-requires
 diff-requires c κs = search needs
 
 returns : tie.Need-returns
-returns c = let s = c .before .before .before .before .args in cc (scaled-comm (pos (s .c1)) (value (s .s2)))
+returns c =
+    let s = c .before .before .before .before .args in
+    c .diff .ensures .0
+    ∙ rw (c .before .before .before .part .ensures .0, scaled-comm (value (s .s2)) (pos (s .c1)), c .before .scale .ensures .0, c .before .before .part2 .ensures .0)
 
 pub to-north-spec : {M : Type 1} → statement M
 to-north-spec =

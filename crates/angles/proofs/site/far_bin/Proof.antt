@@ -46,7 +46,20 @@ add-result c = search needs
 
 returns : tie.Need-returns
 unfolding farBin eastward northward haversine
-returns c = (cc, omega arith)
+returns c =
+    let h = c .before in
+    let k = h .before in
+    let x = k .before in
+    let y = x .before in
+    let cd = y .before in
+    let sd = cd .before in
+    let c2 = sd .before in
+    let s2 = c2 .before in
+    let s1 = s2 .before in (
+      rw (k .sector-of .ensures .0, y .part .ensures .0, x .to-north .ensures, c .band-of .ensures .0, h .haversine-of .ensures)
+          (rw (s1 .sin-of .ensures .0, s2 .sin-of2 .ensures .0, c2 .cos-lat .ensures .0, sd .sin-of3 .ensures .0, cd .cos-of .ensures .0, s1 .before .pre .5)),
+      omega arith,
+    )
 
 pub far-bin-spec : {M : Type 1} → statement M
 far-bin-spec =

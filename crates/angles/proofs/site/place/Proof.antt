@@ -1,5 +1,6 @@
 -- `angles::site::place` meets its contract: `placed` of what is seen; the machine reads each number back from its bits.
 -- Assumes nothing.
+use mathlib.Core.Path.{_∙_}
 use borrow.Author.Needs.{needs}
 use native.Mathlib.Omega.{arith}
 use mir.Syntax.{w64}
@@ -21,12 +22,16 @@ cast-result c = search needs
 returns : tie.Need-returns
 unfolding spec.place
 returns c =
-    let s = c .before .before in
+    let f = c .before in
+    let s = f .before in
     let h1 = toZ-ofZ w64 (s .args .lat1) (s .fits .lat1) in
     let h2 = toZ-ofZ w64 (s .args .lon1) (s .fits .lon1) in
     let h3 = toZ-ofZ w64 (s .args .lat2) (s .fits .lat2) in
-    let h4 = toZ-ofZ w64 (s .args .lon2) (s .fits .lon2) in
-    (cc, omega arith)
+    let h4 = toZ-ofZ w64 (s .args .lon2) (s .fits .lon2) in (
+      c .placed-at .ensures .0
+          ∙ rw (f .seen-from .ensures .0, f .seen-from .ensures .1, f .seen-from .ensures .2, f .seen-from .ensures .3, h1, h2, h3, h4),
+      omega arith,
+    )
 
 pub place-spec : {M : Type 1} → statement M
 place-spec = tie.close (tie.spec seen-from-requires placed-at-requires cast-result returns)

@@ -1,5 +1,6 @@
 -- `angles::site::same_place` meets its contract: the haversine of what is seen; the machine reads each number back from its bits.
 -- Assumes nothing.
+use mathlib.Core.Path.{_∙_}
 use borrow.Author.Needs.{needs}
 use native.Mathlib.Omega.{arith}
 use mir.Syntax.{w64}
@@ -28,12 +29,17 @@ at-most-one-requires c κs = search needs
 returns : tie.Need-returns
 unfolding samePlace haversine
 returns c =
-    let s = c .before .before .before .before .before in
+    let h = c .before in
+    let c2 = h .before in
+    let c1 = c2 .before in
+    let f = c1 .before in
+    let s = f .before in
     let h1 = toZ-ofZ w64 (s .args .lat1) (s .fits .lat1) in
     let h2 = toZ-ofZ w64 (s .args .lon1) (s .fits .lon1) in
     let h3 = toZ-ofZ w64 (s .args .lat2) (s .fits .lat2) in
     let h4 = toZ-ofZ w64 (s .args .lon2) (s .fits .lon2) in
-    cc
+    c .at-most-one .ensures
+    ∙ rw (h .haversine-of .ensures, c1 .cos-lat .ensures .0, c2 .cos-lat2 .ensures .0, f .seen-from .ensures .0, f .seen-from .ensures .1, f .seen-from .ensures .2, f .seen-from .ensures .3, h1, h2, h3, h4)
 
 pub same-place-spec : {M : Type 1} → statement M
 same-place-spec =

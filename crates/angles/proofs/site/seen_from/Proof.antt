@@ -1,9 +1,11 @@
 -- `angles::site::seen_from` meets its contract: call by call; the machine reads each number back from its bits.
 -- Assumes nothing.
+use mathlib.Core.Path.{ap, _∙_}
 use native.Mathlib.Omega.{arith}
 use mir.Syntax.{w64}
 use mir.ValLaws.{toZ-ofZ}
-use Rattle.angles.proofs.Sizes.{read-size}
+use Rattle.angles.specs.Ticks.{wrap}
+use Rattle.angles.proofs.Sizes.{read-size, read-less}
 use Rattle.angles.proofs.site.seen_from.Statement.{statement}
 use Rattle.angles.proofs.site.seen_from.Tie as tie
 
@@ -26,10 +28,16 @@ returns : tie.Need-returns
 returns c =
     let s = c .before .before .before .before .before in
     let h1 = toZ-ofZ w64 (s .args .lat1) (s .fits .lat1) in
-    let h2 = toZ-ofZ w64 (s .args .lon1) (s .fits .lon1) in
-    let h3 = toZ-ofZ w64 (s .args .lat2) (s .fits .lat2) in
-    let h4 = toZ-ofZ w64 (s .args .lon2) (s .fits .lon2) in
-    (cc, cc, cc, cc, omega (arith, read-size), omega (arith, read-size), omega (arith, read-size), omega arith)
+    let h3 = toZ-ofZ w64 (s .args .lat2) (s .fits .lat2) in (
+      c .before .before .before .before .split .ensures .0 ∙ h1,
+      c .before .before .before .split2 .ensures .0 ∙ h3,
+      c .before .before .less .ensures .0 ∙ read-less _ _ (s .fits .lat2) (s .fits .lat1),
+      c .wrapped .ensures .0 ∙ ap wrap (c .before .less2 .ensures .0 ∙ read-less _ _ (s .fits .lon2) (s .fits .lon1)),
+      omega (arith, read-size),
+      omega (arith, read-size),
+      omega (arith, read-size),
+      omega arith,
+    )
 
 pub seen-from-spec : {M : Type 1} → statement M
 seen-from-spec =

@@ -1,5 +1,6 @@
 -- `angles::sphere::band_of` meets its contract: the nine calls are the nine turns over the edges, which are computed.
 -- Assumes nothing.
+use mathlib.Core.Path.{_∙_}
 use borrow.Author.Needs.{needs}
 use native.Mathlib.Omega.{arith}
 use Rattle.angles.specs.Sphere.{atLeast, band, edge}
@@ -36,7 +37,16 @@ reached-requires-9 c κs = search needs
 
 returns : tie.Need-returns
 unfolding band atLeast edge sinH term
-returns c = (cc, omega arith)
+returns c =
+    let c8 = c .before in
+    let c7 = c8 .before in
+    let c6 = c7 .before in
+    let c5 = c6 .before in
+    let c4 = c5 .before in
+    let c3 = c4 .before in
+    let c2 = c3 .before in
+    let c1 = c2 .before in
+    (c .reached9 .ensures .0 ∙ rw (c8 .reached8 .ensures .0, c7 .reached7 .ensures .0, c6 .reached6 .ensures .0, c5 .reached5 .ensures .0, c4 .reached4 .ensures .0, c3 .reached3 .ensures .0, c2 .reached2 .ensures .0, c1 .reached .ensures .0), omega arith)
 
 pub band-of-spec : {M : Type 1} → statement M
 band-of-spec =

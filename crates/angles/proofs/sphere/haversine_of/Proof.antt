@@ -1,5 +1,6 @@
 -- `angles::sphere::haversine_of` meets its contract: call by call.
 -- Assumes nothing.
+use mathlib.Core.Path.{_∙_}
 use borrow.Author.Needs.{needs}
 use Rattle.angles.specs.Ticks.{scaled}
 use Rattle.angles.proofs.sphere.haversine_of.Statement.{statement}
@@ -19,7 +20,11 @@ two-squares-requires c κs = search needs
 
 returns : tie.Need-returns
 unfolding scaled
-returns c = cc
+returns c =
+    let q = c .before in
+    let b = q .before in
+    let a = b .before in
+    c .two-squares .ensures ∙ rw (a .sin-half .ensures .0, b .sin-half2 .ensures .0, q .mul30 .ensures .0)
 
 pub haversine-of-spec : {M : Type 1} → statement M
 haversine-of-spec =
