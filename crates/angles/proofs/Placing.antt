@@ -4,11 +4,11 @@ use mathlib.Core.Path.{_≡_, sym}
 use mathlib.Core.Bool.{Bool}
 use Prim.Native.Nat.{ℕ, _+_, _*_, _≤_, _<_}
 use lib.IntN.{ℤ, pos}
-use Rattle.angles.specs.Ticks.{scaled}
-use Rattle.angles.specs.Angle.{cosine}
+use Rattle.trig.specs.Ticks.{scaled}
+use Rattle.trig.specs.Angle.{cosine}
 use Rattle.angles.specs.Plane.{mm, east, north, column}
 use Rattle.angles.specs.Place.{placed, farBin}
-use Rattle.angles.specs.Value.{signed}
+use Rattle.trig.specs.Value.{signed}
 use Rattle.angles.proofs.Wraps.{near-yes, near-no}
 
 module _ (lat1 lat2 dlat dlon : ℤ) (a b : Bool) (c1 e n : ℕ) (k : pos c1 ≡ cosine lat1) (p : signed a e ≡ mm (scaled dlon (pos c1))) (q : signed b n ≡ mm dlat) where

@@ -5,7 +5,7 @@ use mathlib.Core.Bool.{Bool, true, false, cond}
 use Prim.Native.Nat.{ℕ, zero, suc, _<_}
 use native.Mathlib.Omega.{arith}
 use Rattle.angles.specs.Bearing.{quarter, sector}
-use Rattle.angles.specs.Value.{signed}
+use Rattle.trig.specs.Value.{signed}
 
 pub due-none : (a b : Bool) → sector (signed a 0) (signed b 0) ≡ 0
 unfolding sector signed

@@ -2,15 +2,15 @@
 -- Assumes nothing.
 use mathlib.Core.Path.{_≡_, refl}
 use mathlib.Core.Bool.{Bool, true, false}
-use Prim.Native.Nat.{ℕ, zero, suc, _+_, _-_, _/_, _≤_, _<_}
+use Prim.Native.Nat.{ℕ, zero, suc, _+_, _-_, _*_, _/_, _^_, _≤_, _<_}
 use mathlib.Core.Logic.{⊎-elim}
 use native.Mathlib.Nat.{add-comm, eq-or-lt-of-le}
 use native.Mathlib.Omega.{arith}
 use borrow.Author.Tests.{le-leb, lt-leb, le-ltb, lt-ltb}
-use Rattle.angles.specs.Ticks.{deg, wrap}
-use Rattle.angles.specs.Plane.{column, near}
-use Rattle.angles.specs.Value.{signed}
-use Rattle.angles.proofs.Signs.{sub-lt, abs-signed}
+use Rattle.trig.specs.Ticks.{deg, wrap}
+use Rattle.angles.specs.Plane.{M, mm, column, near}
+use Rattle.trig.specs.Value.{signed}
+use Rattle.trig.proofs.Signs.{sub-lt, abs-signed, quot-pos}
 
 pub wrap-in-minus : (n : ℕ) → n ≤ deg 180 → wrap (signed true n) ≡ signed true n
 unfolding wrap signed
@@ -33,6 +33,10 @@ wrap-round = refl
 pub wrap-out-plus : (n : ℕ) → deg 180 ≤ n → n ≤ deg 360 → wrap (signed false n) ≡ signed true (deg 360 - n)
 unfolding wrap signed
 wrap-out-plus n g h = ⊎-elim (λ e. rw e wrap-round) (λ l. rw (le-leb (deg 180) n g) (sub-lt n (deg 360) l)) (eq-or-lt-of-le h)
+
+pub mm-signed : (a : Bool) (m : ℕ) → mm (signed a m) ≡ signed a (m * M / 2 ^ 28)
+unfolding mm
+mm-signed a m = quot-pos a m M (2 ^ 28)
 
 pub column-minus : (n : ℕ) → n < 100000000 → column (signed true n) ≡ (100000000 - n) / 5000000
 unfolding column signed

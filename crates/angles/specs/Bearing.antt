@@ -3,8 +3,8 @@ use Prim.Native.Nat.{ℕ, zero, suc, _+_}
 use mathlib.Core.Bool.{cond}
 use lib.Dec.{ltb}
 use lib.IntN.{ℤ, pos, negsuc, _-ℤ_}
-use Rattle.angles.specs.Ticks.{scaled}
-use Rattle.angles.specs.Angle.{sine, cosine}
+use Rattle.trig.specs.Ticks.{scaled}
+use Rattle.trig.specs.Angle.{sine, cosine}
 
 -- 'Y = sin dlon × cos lat2 div 2^30'
 unfoldable pub eastward : ℤ → ℤ → ℤ

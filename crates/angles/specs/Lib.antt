@@ -1,9 +1,5 @@
--- Document 01, 'Ticks, plane and sphere', a file for each paragraph and in its order. `Value` reads the code's signed numbers.
-pub mod Ticks
-pub mod Series
-pub mod Angle
+-- Document 01, 'Ticks, plane and sphere', from its third paragraph on, a file for each and in its order. The first two are in `trig`.
 pub mod Plane
 pub mod Sphere
 pub mod Bearing
 pub mod Place
-pub mod Value

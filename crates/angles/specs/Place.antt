@@ -2,7 +2,7 @@
 use Prim.Native.Nat.{ℕ, _+_, _*_}
 use mathlib.Core.Bool.{Bool, _&&_, cond}
 use lib.IntN.{ℤ, _-ℤ_}
-use Rattle.angles.specs.Ticks.{wrap}
+use Rattle.trig.specs.Ticks.{wrap}
 use Rattle.angles.specs.Plane.{east, north, near, column}
 use Rattle.angles.specs.Sphere.{haversine, atMostOne, band}
 use Rattle.angles.specs.Bearing.{eastward, northward, sector}

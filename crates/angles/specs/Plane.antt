@@ -4,8 +4,8 @@ use mathlib.Core.Bool.{Bool}
 use lib.Dec.{ltb}
 use lib.IntN.{ℤ, pos, natAbs, _+ℤ_, _*ℤ_}
 use lib.Signed.{quotZ}
-use Rattle.angles.specs.Ticks.{scaled, π, nearest}
-use Rattle.angles.specs.Angle.{cosine}
+use Rattle.trig.specs.Ticks.{scaled, π, nearest}
+use Rattle.trig.specs.Angle.{cosine}
 
 -- 'M = 6,371,008,800 × π/180 × 16'
 abbrev pub M : ℕ

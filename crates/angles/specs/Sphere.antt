@@ -4,9 +4,9 @@ use mathlib.Core.Bool.{Bool, cond}
 use mathlib.Core.List.{List, [], _∷_}
 use lib.IntN.{ℤ, pos, natAbs, _+ℤ_, _*ℤ_}
 use lib.Signed.{leZ}
-use Rattle.angles.specs.Ticks.{scaled}
-use Rattle.angles.specs.Series.{sinH}
-use Rattle.angles.specs.Angle.{sine, cosine}
+use Rattle.trig.specs.Ticks.{scaled}
+use Rattle.trig.specs.Series.{sinH}
+use Rattle.trig.specs.Angle.{sine, cosine}
 
 -- 'A = sin(|dlat| div 2), B = sin(|dlon| div 2) in ticks': what the sines are of
 abbrev pub half : ℤ → ℤ

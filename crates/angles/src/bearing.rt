@@ -2,11 +2,11 @@
 ghost use mathlib.Core.Path.{_≡_};
 ghost use Prim.Native.Nat.{_+_, _≤_, _<_, _^_};
 ghost use lib.IntN.{pos, _-ℤ_};
-ghost use Rattle.angles.specs.Ticks.{scaled};
+ghost use Rattle.trig.specs.Ticks.{scaled};
 ghost use Rattle.angles.specs.Bearing.{quarter, sector};
-ghost use Rattle.angles.specs.Value.{value};
-use super::num;
-use super::num::Num;
+ghost use Rattle.trig.specs.Value.{value};
+use trig::num;
+use trig::num::Num;
 
 // X, from the sines and cosines of the two latitudes and the cosine of dlon.
 pub fn to_north(s1: Num, c1: u64, s2: Num, c2: u64, cd: Num) -> Num

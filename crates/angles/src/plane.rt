@@ -2,11 +2,11 @@
 ghost use mathlib.Core.Path.{_≡_};
 ghost use Prim.Native.Nat.{_≤_, _<_, _^_};
 ghost use lib.IntN.{pos};
-ghost use Rattle.angles.specs.Ticks.{deg, wrap, scaled};
+ghost use Rattle.trig.specs.Ticks.{deg, wrap, scaled};
 ghost use Rattle.angles.specs.Plane.{mm, column};
-ghost use Rattle.angles.specs.Value.{value};
-use super::num;
-use super::num::Num;
+ghost use Rattle.trig.specs.Value.{value};
+use trig::num;
+use trig::num::Num;
 
 const M: u64 = 1779121284;
 

@@ -2,17 +2,17 @@
 ghost use mathlib.Core.Path.{_≡_};
 ghost use Prim.Native.Nat.{_≤_, _<_, _^_};
 ghost use lib.IntN.{pos, natAbs, _-ℤ_};
-ghost use Rattle.angles.specs.Ticks.{deg, wrap};
-ghost use Rattle.angles.specs.Angle.{cosine};
+ghost use Rattle.trig.specs.Ticks.{deg, wrap};
+ghost use Rattle.trig.specs.Angle.{cosine};
 ghost use Rattle.angles.specs.Place.{farBin, placed, samePlace};
 ghost use Rattle.angles.specs.Place as spec;
-ghost use Rattle.angles.specs.Value.{value};
+ghost use Rattle.trig.specs.Value.{value};
 use super::bearing;
-use super::num;
-use super::num::Num;
 use super::plane;
 use super::sphere;
-use super::turn;
+use trig::num;
+use trig::num::Num;
+use trig::turn;
 
 // 9 × sector + band. The cosine of lat1 is handed on, since the plane has used it.
 fn far_bin(lat1: Num, c1: u64, lat2: Num, dlat: Num, dlon: Num) -> u64

@@ -4,13 +4,13 @@ ghost use mathlib.Core.Bool.{cond};
 ghost use Prim.Native.Nat.{_≤_, _<_, _^_};
 ghost use lib.Dec.{leb};
 ghost use lib.IntN.{pos};
-ghost use Rattle.angles.specs.Ticks.{deg, scaled};
-ghost use Rattle.angles.specs.Angle.{sine};
+ghost use Rattle.trig.specs.Ticks.{deg, scaled};
+ghost use Rattle.trig.specs.Angle.{sine};
 ghost use Rattle.angles.specs.Sphere.{half, hav, atMostOne, band};
-ghost use Rattle.angles.specs.Value.{value};
-use super::num::Num;
-use super::series;
-use super::turn;
+ghost use Rattle.trig.specs.Value.{value};
+use trig::num::Num;
+use trig::series;
+use trig::turn;
 
 // a² + (q × b div 2^30) × b.
 fn two_squares(a: u64, b: u64, q: u64) -> u64

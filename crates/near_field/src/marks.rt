@@ -12,7 +12,7 @@ use super::near;
 use super::plane;
 use super::spans;
 use angles::bearing;
-use angles::num;
+use trig::num;
 use view::Far;
 
 // How many sectors are marked.

@@ -7,9 +7,9 @@ use mathlib.Core.Option.{none, some}
 use Prim.Native.Nat.{ℕ, _^_, _<_}
 use lib.IntN.{pos, negsuc}
 use lib.Ieee.{binary64, round, mul}
-use Rattle.angles.specs.Ticks.{deg}
-use Rattle.angles.specs.Series.{sinH, cosR, term}
-use Rattle.angles.specs.Angle.{sinQ, cosQ, sinHalf, cosHalf, sine, cosine}
+use Rattle.trig.specs.Ticks.{deg}
+use Rattle.trig.specs.Series.{sinH, cosR, term}
+use Rattle.trig.specs.Angle.{sinQ, cosQ, sinHalf, cosHalf, sine, cosine}
 use Rattle.angles.specs.Plane.{near, column}
 use Rattle.angles.specs.Bearing.{sector}
 use Rattle.floats.specs.Horizon.{horizon, fourTwelve, plusZero}

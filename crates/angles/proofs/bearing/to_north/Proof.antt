@@ -3,8 +3,8 @@
 use mathlib.Core.Path.{_∙_}
 use borrow.Author.Needs.{needs}
 use lib.IntN.{pos}
-use Rattle.angles.specs.Value.{value}
-use Rattle.angles.proofs.Signs.{scaled-comm}
+use Rattle.trig.specs.Value.{value}
+use Rattle.trig.proofs.Signs.{scaled-comm}
 use Rattle.angles.proofs.bearing.to_north.Statement.{statement}
 use Rattle.angles.proofs.bearing.to_north.Tie as tie
 

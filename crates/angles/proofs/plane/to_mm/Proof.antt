@@ -2,7 +2,7 @@
 -- Assumes nothing.
 use borrow.Author.Needs.{needs}
 use mathlib.Core.Path.{sym}
-use Rattle.angles.proofs.Signs.{mm-signed}
+use Rattle.angles.proofs.Wraps.{mm-signed}
 use Rattle.angles.proofs.plane.to_mm.Statement.{statement}
 use Rattle.angles.proofs.plane.to_mm.Tie as tie
 

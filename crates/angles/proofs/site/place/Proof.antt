@@ -5,7 +5,7 @@ use borrow.Author.Needs.{needs}
 use native.Mathlib.Omega.{arith}
 use mir.Syntax.{w64}
 use mir.ValLaws.{toZ-ofZ}
-use Rattle.angles.proofs.Sizes.{read-size}
+use Rattle.trig.proofs.Sizes.{read-size}
 use Rattle.angles.specs.Place as spec
 use Rattle.angles.proofs.site.place.Statement.{statement}
 use Rattle.angles.proofs.site.place.Tie as tie

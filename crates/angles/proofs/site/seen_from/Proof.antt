@@ -4,8 +4,8 @@ use mathlib.Core.Path.{ap, _∙_}
 use native.Mathlib.Omega.{arith}
 use mir.Syntax.{w64}
 use mir.ValLaws.{toZ-ofZ}
-use Rattle.angles.specs.Ticks.{wrap}
-use Rattle.angles.proofs.Sizes.{read-size, read-less}
+use Rattle.trig.specs.Ticks.{wrap}
+use Rattle.trig.proofs.Sizes.{read-size, read-less}
 use Rattle.angles.proofs.site.seen_from.Statement.{statement}
 use Rattle.angles.proofs.site.seen_from.Tie as tie
 

@@ -2,7 +2,7 @@
 -- Assumes nothing.
 use mathlib.Core.Path.{refl}
 use Rattle.angles.specs.Sphere.{atMostOne, edge}
-use Rattle.angles.specs.Series.{sinH, term}
+use Rattle.trig.specs.Series.{sinH, term}
 use Rattle.angles.proofs.sphere.at_most_one.Statement.{statement}
 use Rattle.angles.proofs.sphere.at_most_one.Tie as tie
 

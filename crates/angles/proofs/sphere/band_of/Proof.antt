@@ -4,7 +4,7 @@ use mathlib.Core.Path.{_∙_}
 use borrow.Author.Needs.{needs}
 use native.Mathlib.Omega.{arith}
 use Rattle.angles.specs.Sphere.{atLeast, band, edge}
-use Rattle.angles.specs.Series.{sinH, term}
+use Rattle.trig.specs.Series.{sinH, term}
 use Rattle.angles.proofs.sphere.band_of.Statement.{statement}
 use Rattle.angles.proofs.sphere.band_of.Tie as tie
 

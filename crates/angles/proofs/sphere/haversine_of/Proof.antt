@@ -2,7 +2,7 @@
 -- Assumes nothing.
 use mathlib.Core.Path.{_∙_}
 use borrow.Author.Needs.{needs}
-use Rattle.angles.specs.Ticks.{scaled}
+use Rattle.trig.specs.Ticks.{scaled}
 use Rattle.angles.proofs.sphere.haversine_of.Statement.{statement}
 use Rattle.angles.proofs.sphere.haversine_of.Tie as tie
 

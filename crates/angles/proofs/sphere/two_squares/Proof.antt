@@ -4,7 +4,7 @@ use borrow.Author.Needs.{needs}
 use native.Mathlib.Omega.{arith}
 use native.Mathlib.Nat.{mul-le-mul, le-trans}
 use Rattle.angles.specs.Sphere.{hav}
-use Rattle.angles.specs.Ticks.{scaled}
+use Rattle.trig.specs.Ticks.{scaled}
 use Rattle.angles.proofs.sphere.two_squares.Statement.{statement}
 use Rattle.angles.proofs.sphere.two_squares.Tie as tie
 
