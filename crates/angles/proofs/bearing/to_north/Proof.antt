@@ -24,7 +24,7 @@ returns : tie.Need-returns
 returns c =
     let s = c .before .before .before .before .args in
     c .diff .ensures .0
-    ∙ rw (c .before .before .before .part .ensures .0, scaled-comm (value (s .s2)) (pos (s .c1)), c .before .scale .ensures .0, c .before .before .part2 .ensures .0)
+    ∙ simp (c .before .before .before .part .ensures .0, scaled-comm (value (s .s2)) (pos (s .c1)), c .before .scale .ensures .0, c .before .before .part2 .ensures .0)
 
 pub to-north-spec : {M : Type 1} → statement M
 to-north-spec =

@@ -56,8 +56,19 @@ returns c =
     let c2 = sd .before in
     let s2 = c2 .before in
     let s1 = s2 .before in (
-      rw (k .sector-of .ensures .0, y .part .ensures .0, x .to-north .ensures, c .band-of .ensures .0, h .haversine-of .ensures)
-          (rw (s1 .sin-of .ensures .0, s2 .sin-of2 .ensures .0, c2 .cos-lat .ensures .0, sd .sin-of3 .ensures .0, cd .cos-of .ensures .0, s1 .before .pre .5)),
+      simp (
+        k .sector-of .ensures .0,
+        y .part .ensures .0,
+        x .to-north .ensures,
+        c .band-of .ensures .0,
+        h .haversine-of .ensures,
+        s1 .sin-of .ensures .0,
+        s2 .sin-of2 .ensures .0,
+        c2 .cos-lat .ensures .0,
+        sd .sin-of3 .ensures .0,
+        cd .cos-of .ensures .0,
+        s1 .before .pre .5,
+      ),
       omega arith,
     )
 

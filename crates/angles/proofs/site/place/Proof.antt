@@ -29,7 +29,7 @@ returns c =
     let h3 = toZ-ofZ w64 (s .args .lat2) (s .fits .lat2) in
     let h4 = toZ-ofZ w64 (s .args .lon2) (s .fits .lon2) in (
       c .placed-at .ensures .0
-          ∙ rw (f .seen-from .ensures .0, f .seen-from .ensures .1, f .seen-from .ensures .2, f .seen-from .ensures .3, h1, h2, h3, h4),
+          ∙ simp (f .seen-from .ensures .0, f .seen-from .ensures .1, f .seen-from .ensures .2, f .seen-from .ensures .3, h1, h2, h3, h4),
       omega arith,
     )
 

@@ -39,7 +39,7 @@ returns c =
     let h3 = toZ-ofZ w64 (s .args .lat2) (s .fits .lat2) in
     let h4 = toZ-ofZ w64 (s .args .lon2) (s .fits .lon2) in
     c .at-most-one .ensures
-    ∙ rw (h .haversine-of .ensures, c1 .cos-lat .ensures .0, c2 .cos-lat2 .ensures .0, f .seen-from .ensures .0, f .seen-from .ensures .1, f .seen-from .ensures .2, f .seen-from .ensures .3, h1, h2, h3, h4)
+    ∙ simp (h .haversine-of .ensures, c1 .cos-lat .ensures .0, c2 .cos-lat2 .ensures .0, f .seen-from .ensures .0, f .seen-from .ensures .1, f .seen-from .ensures .2, f .seen-from .ensures .3, h1, h2, h3, h4)
 
 pub same-place-spec : {M : Type 1} → statement M
 same-place-spec =

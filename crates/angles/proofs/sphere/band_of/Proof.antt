@@ -46,7 +46,7 @@ returns c =
     let c3 = c4 .before in
     let c2 = c3 .before in
     let c1 = c2 .before in
-    (c .reached9 .ensures .0 ∙ rw (c8 .reached8 .ensures .0, c7 .reached7 .ensures .0, c6 .reached6 .ensures .0, c5 .reached5 .ensures .0, c4 .reached4 .ensures .0, c3 .reached3 .ensures .0, c2 .reached2 .ensures .0, c1 .reached .ensures .0), omega arith)
+    (c .reached9 .ensures .0 ∙ simp (c8 .reached8 .ensures .0, c7 .reached7 .ensures .0, c6 .reached6 .ensures .0, c5 .reached5 .ensures .0, c4 .reached4 .ensures .0, c3 .reached3 .ensures .0, c2 .reached2 .ensures .0, c1 .reached .ensures .0), omega arith)
 
 pub band-of-spec : {M : Type 1} → statement M
 band-of-spec =

@@ -24,7 +24,7 @@ returns c =
     let q = c .before in
     let b = q .before in
     let a = b .before in
-    c .two-squares .ensures ∙ rw (a .sin-half .ensures .0, b .sin-half2 .ensures .0, q .mul30 .ensures .0)
+    c .two-squares .ensures ∙ simp (a .sin-half .ensures .0, b .sin-half2 .ensures .0, q .mul30 .ensures .0)
 
 pub haversine-of-spec : {M : Type 1} → statement M
 haversine-of-spec =

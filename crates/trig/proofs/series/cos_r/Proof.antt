@@ -41,7 +41,7 @@ returns c =
     let c2 = c3 .before in
     let c1 = c2 .before in
     let c0 = c1 .before in
-    (c .one-term7 .ensures .0 ∙ rw (c6 .one-term6 .ensures .0, c5 .one-term5 .ensures .0, c4 .one-term4 .ensures .0, c3 .one-term3 .ensures .0, c2 .one-term2 .ensures .0, c1 .one-term .ensures .0, c0 .mul30 .ensures .0), omega arith)
+    (c .one-term7 .ensures .0 ∙ simp (c6 .one-term6 .ensures .0, c5 .one-term5 .ensures .0, c4 .one-term4 .ensures .0, c3 .one-term3 .ensures .0, c2 .one-term2 .ensures .0, c1 .one-term .ensures .0, c0 .mul30 .ensures .0), omega arith)
 
 pub cos-r-spec : {M : Type 1} → statement M
 cos-r-spec =
