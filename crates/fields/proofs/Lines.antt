@@ -5,11 +5,11 @@ use mathlib.Core.List.{List, [], _∷_, _++_}
 use Prim.Native.Nat.{ℕ, zero, suc, _+_, _-_, _≤_, _<_}
 use native.Mathlib.Numerals.{add-one}
 use native.Mathlib.Omega.{arith}
-use borrow.Author.Tests.{eq-eqb, ne-eqb, le-leb, lt-leb}
+use borrow.Author.Tests.{eq-eqb, ne-eqb, le-leb, lt-leb, lt-ltb, le-ltb}
 use lib.Dec.{eqb}
 use lib.ListN.{length, getD, take, drop, set, drop-of-length-le, length-drop}
 use lib.Seq.{drop-cons, take-all, take-suc, getD-drop, getD-append-add, set-at, append-snoc, length-take-le, length-front}
-use Rattle.fields.specs.Text.{firstOf, backOver, sameBytes, printable, movedTo}
+use Rattle.fields.specs.Text.{firstOf, backOver, textEnd, sameBytes, printable, movedTo}
 
 -- the byte at i, and the rest
 pub walk : (s : List ℕ) (i : ℕ) → i < length s → drop i s ≡ getD s i 0 ∷ drop (i + 1) s
@@ -53,6 +53,15 @@ pub back-none : (s : List ℕ) (n : ℕ) → n ≤ 0 → backOver s n ≡ n
 unfolding backOver
 back-none s zero h = refl
 back-none s (suc n) h = absurd (omega arith)
+
+-- ---- a line with a comment, and one without
+pub text-comment : (line : List ℕ) (hash : ℕ) → hash ≡ firstOf 35 line → hash < length line → textEnd line ≡ backOver line hash
+unfolding textEnd
+text-comment line hash e h = rw (← e) (rw (lt-ltb hash (length line) h))
+
+pub text-whole : (line : List ℕ) (hash : ℕ) → hash ≡ firstOf 35 line → length line ≤ hash → textEnd line ≡ length line
+unfolding textEnd
+text-whole line hash e h = rw (← e) (rw (le-ltb hash (length line) h))
 
 -- ---- the same bytes
 pub false-right : (b : Bool) → (b && false) ≡ false
