@@ -1,14 +1,20 @@
 -- How the contracts and the theorem of demand 3 meet: for every list of calls on a lent watch, each from what the one before left and each as its
--- contract says, the answers are those of the definitions' `history`. The theorem of crate `protection` speaks of that history.
+-- contract says, the answers are those of the definitions' `history` (`answers-are`). The theorem of crate `protection` speaks of that history. So it
+-- speaks of what was run: on a lent watch that `fresh` left, a protected receiver was answered as its card answers its calls alone (`kept`).
 use mathlib.Core.Path.{_≡_, refl, sym, _∙_, ap, ap₂, subst}
-use Prim.Native.Nat.{ℕ}
+use Prim.Native.Nat.{ℕ, _≤_}
+use mathlib.Core.Option.{none}
 use mathlib.Core.List.{List, [], _∷_, map}
 use Rattle.table.specs.Machine as M
 use Rattle.table.specs.Machine.{Call, Step, Event, history}
 use Rattle.table.specs.Rows.{Watch}
-use Rattle.table.specs.Watch.{watchStep}
+use Rattle.table.specs.Watch.{watchStep, freshWatch}
 use Rattle.receiver.specs.declared.Part.{Part}
 use Rattle.receiver.specs.Calls.{Act, Out, kind, siting, callOn}
+use Rattle.protection.specs.Marks.{callsOf, answersTo}
+use Rattle.protection.specs.Card.{cardAnswers}
+use Rattle.protection.specs.Promise.{Safe}
+use Rattle.protection.proofs.Promised.{promise}
 use Rattle.rows.specs.declared.Row.{Row}
 use Rattle.rows.specs.Read.{watchIs}
 use Rattle.watch.specs.declared.Answer.{Answer}
@@ -38,3 +44,12 @@ answers-are xs ys ws (r ∷ rs) m =
     let left : watchIs (r .rows) (r .cells) (r .ends) ≡ step .next = ap (λ (s : Step (Watch Part) Out). s .next) (m .0) in
     ap₂ {C = List (Event Act Out)} (λ (a : M.Answer Out) (es : List (Event Act Out)). record { call = r .call; answer = a } ∷ es) said
     (answers-are (r .rows) (r .cells) (r .ends) rs (m .1) ∙ ap (λ (v : Watch Part). history (watchStep kind siting) v (map (λ (x : Run). x .call) rs)) left)
+
+abbrev pub callsIn : List Run → List (Call Act)
+callsIn rs = map (λ (r : Run). r .call) rs
+
+-- what `fresh` leaves (its contract) is the fresh watch of C rows; fewer than C others were marked since k's latest mark at every point
+pub kept : (C : ℕ) → 1 ≤ C → C ≤ 4096 → (k : M.Key) (xs : List Row) (ys ws : List ℕ) (rs : List Run) → watchIs xs ys ws ≡ freshWatch (siting .form) C → Met xs ys ws rs → Safe C k (callsIn rs)
+    → answersTo k (map eventOf rs) ≡ cardAnswers k none (callsOf k (callsIn rs))
+kept C one most k xs ys ws rs fresh m safe =
+    ap (answersTo k) (answers-are xs ys ws rs m ∙ ap (λ (w : Watch Part). history (watchStep kind siting) w (callsIn rs)) fresh) ∙ promise .answers C one most k (callsIn rs) safe
