@@ -3,9 +3,9 @@
 use mathlib.Core.Path.{_≡_, refl, sym, ap, _∙_}
 use mathlib.Core.Bool.{Bool, true, false}
 use mathlib.Core.List.{List, [], _∷_}
-use Prim.Native.Nat.{ℕ, _-_, _^_, _<_, _≤_}
+use Prim.Native.Nat.{ℕ, _-_, _^_, _≤_}
 use lib.ListN.{length}
-use borrow.Author.Tests.{eq-eqb, ne-eqb, lt-ltb, le-ltb}
+use borrow.Author.Tests.{eq-eqb, ne-eqb}
 use lib.Ieee.{Float}
 use Rattle.fields.specs.Text.{textEnd, fieldAt, partOf, sameBytes}
 use Rattle.numbers.specs.Numbers.{wholeOf, signedOf, realOf}
@@ -37,7 +37,7 @@ use Rattle.calls.specs.declared.read.RealAt.the-variants as one
 use Rattle.calls.specs.declared.read.Two.the-variants as two
 use Rattle.calls.specs.declared.read.Four.the-variants as four
 use Rattle.calls.specs.declared.read.Rest.the-variants as rest
-use Rattle.calls.specs.Replies.{heightBy, heightIn, heightOf, heightAt, wholeBy, wholeIn, wholeAt, bucketEnd, bucketBy, bitOf, bitEnd, bitBy, wordBucket, wordBit, realBy, realIn, realAt, secondBy, twoBy, twoAt, restBy, restAt, fourBy, laterBy, earlierBy, fourAt, placeBy, siteOf, sameOf, sameBy, horizonEnd, horizonBy, wordPlace, wordSame, wordHorizon, callOf, returnAtEnd, textBy, textReply, lineReply, replyTo}
+use Rattle.calls.specs.Replies.{heightBy, heightIn, heightOf, heightAt, wholeBy, wholeIn, wholeAt, bucketEnd, bucketBy, bitOf, bitEnd, bitBy, wordBucket, wordBit, realBy, realIn, realAt, secondBy, twoBy, twoAt, restBy, restAt, fourBy, laterBy, earlierBy, fourAt, placeBy, siteOf, sameOf, sameBy, horizonEnd, horizonBy, wordPlace, wordSame, wordHorizon, callOf, returnAtEnd, textBy, textReply, lineReply}
 
 -- ---- one number
 module _ (t : List ℕ) (from : ℕ) (name : Name) where
@@ -255,17 +255,3 @@ module _ (t : List ℕ) where
   pub line-text : {e : ℕ} → e ≡ textEnd t → (e ≡ 0 → ⊥) → textReply (partOf t 0 e) ≡ lineReply t
   unfolding lineReply
   line-text e z = rw (ne-eqb (textEnd t) 0 (λ q. z (e ∙ q))) (ap (λ (k : ℕ). textReply (partOf t 0 k)) e)
-
--- ---- a line by its length
-module _ (long : Bool) (line : List ℕ) where
-  pub reply-dropped : long ≡ true → reply.Wrong fault.TooLong ≡ replyTo long line
-  unfolding replyTo
-  reply-dropped h = rw h
-
-  pub reply-long : long ≡ false → 1024 < length line → reply.Wrong fault.TooLong ≡ replyTo long line
-  unfolding replyTo
-  reply-long h l = rw (h, lt-ltb 1024 (length line) l)
-
-  pub reply-read : long ≡ false → length line ≤ 1024 → lineReply line ≡ replyTo long line
-  unfolding replyTo
-  reply-read h l = rw (h, le-ltb 1024 (length line) l)

@@ -1,3 +1,3 @@
 -- The definitions that the contracts cite.
-pub mod Buffers
+pub mod Inputs
 pub mod Replies

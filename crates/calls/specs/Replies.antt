@@ -1,6 +1,6 @@
 -- What a line is answered, as a value: fields are read in turn, and the first thing that is wrong is the answer. Definitions only.
 use Prim.Native.Nat.{ℕ, _-_, _^_}
-use mathlib.Core.Bool.{Bool, _&&_, _||_, cond}
+use mathlib.Core.Bool.{Bool, _&&_, cond}
 use mathlib.Core.List.{List, [], _∷_}
 use lib.ListN.{length, getD}
 use lib.Dec.{eqb, ltb}
@@ -16,6 +16,8 @@ use Rattle.numbers.specs.declared.Number.{Number}
 use Rattle.numbers.specs.declared.Number.the-variants as number
 use Rattle.numbers.specs.declared.Signed.{Signed}
 use Rattle.numbers.specs.declared.Signed.the-variants as signed
+use Rattle.lines.specs.declared.Line.{Line}
+use Rattle.lines.specs.declared.Line.the-variants as line
 use Rattle.cells.specs.Cells.{bucketOf, aircraftBit}
 use Rattle.cells.specs.declared.Height.{Height}
 use Rattle.cells.specs.declared.Height.the-variants.{Known}
@@ -218,7 +220,8 @@ unfoldable pub lineReply : List ℕ → Reply
 unfolding textReply
 lineReply s = cond (eqb (textEnd s) 0) reply.Nothing (textReply (partOf s 0 (textEnd s)))
 
--- a line of more than 1,024 bytes is not read; of one that the buffer did not hold whole the first bytes were dropped
-unfoldable pub replyTo : Bool → List ℕ → Reply
-unfolding lineReply
-replyTo long line = cond (long || ltb 1024 (length line)) (reply.Wrong fault.TooLong) (lineReply line)
+-- a line of more than 1,024 bytes is not read
+abbrev pub replyTo : Line → List ℕ → Reply
+replyTo (line.At start end) bytes = lineReply bytes
+replyTo line.TooLong bytes = reply.Wrong fault.TooLong
+replyTo line.Nothing bytes = reply.Nothing

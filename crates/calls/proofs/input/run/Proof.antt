@@ -1,19 +1,22 @@
--- `calls::input::run` meets its contract. The invariant: the bytes that wait lie within the buffer, which keeps its length. The measure is the number of turns that are left.
+-- `calls::input::run` meets its contract. The invariant: the bytes that wait lie within the buffer, and both buffers keep their lengths. The measure is the number of turns that are left.
 use mathlib.Core.Path.{_≡_}
-use borrow.Author.Needs.{needs}
 use lib.ListN.{length}
-use Rattle.calls.specs.Buffers.{Within}
+use Rattle.lines.specs.Lines.{Within}
+use borrow.Author.Needs.{needs}
 use Rattle.calls.proofs.input.run.Statement.{statement}
 use Rattle.calls.proofs.input.run.Tie as tie
 
 abbrev Inv-loop : tie.InvT-loop
-Inv-loop buf₀ out₀ s₀ turns₀ buf out s turns = (Within s buf) × (length buf ≡ length buf₀) × (length out ≡ length out₀)
+Inv-loop buf₀ out₀ s₀ turns₀ buf out s turns = (Within (s .input) buf) × (length buf ≡ length buf₀) × (length out ≡ length out₀)
 
 abbrev μ-loop : tie.MeasureT-loop
 μ-loop buf₀ out₀ s₀ turns₀ buf out s turns = turns
 
+start-requires : tie.Need-start-requires Inv-loop μ-loop
+start-requires c κs = search needs
+
 loop-holds : tie.Need-loop-holds Inv-loop μ-loop
-loop-holds c = search needs
+loop-holds c = (rw (c .start .ensures) (search needs), search needs, search needs)
 
 step-requires : tie.Need-step-requires Inv-loop μ-loop
 step-requires c κs = search needs
@@ -27,6 +30,12 @@ loop-less c = search needs
 loop-again : tie.Need-loop-again Inv-loop μ-loop
 loop-again c = search needs
 
+part-requires : tie.Need-part-requires Inv-loop μ-loop
+part-requires c κs = search needs
+
+write-all-requires : tie.Need-write-all-requires Inv-loop μ-loop
+write-all-requires c κs = search needs
+
 same-length : tie.Need-same-length Inv-loop μ-loop
 same-length c = search needs
 
@@ -36,29 +45,20 @@ same-length-2 c = search needs
 returns : tie.Need-returns Inv-loop μ-loop
 returns c = search needs
 
-same-length-3 : tie.Need-same-length-3 Inv-loop μ-loop
-same-length-3 c = search needs
-
-same-length-4 : tie.Need-same-length-4 Inv-loop μ-loop
-same-length-4 c = search needs
-
-returns-2 : tie.Need-returns-2 Inv-loop μ-loop
-returns-2 c = search needs
-
 pub run-spec : {M : Type 1} → statement M
 run-spec =
     tie.close
     (tie.spec
     Inv-loop
     μ-loop
+    start-requires
     loop-holds
     step-requires
     sub-turns
     loop-less
     loop-again
+    part-requires
+    write-all-requires
     same-length
     same-length-2
-    returns
-    same-length-3
-    same-length-4
-    returns-2)
+    returns)
