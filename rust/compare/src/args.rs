@@ -37,7 +37,7 @@ pub struct Args {
 pub const USAGE: &str =
     "compare [--seed N] [--count N] [--judgings N] [--calls N] [--only CHECK,CHECK..] [--all]
         compare --input place|same|horizon BITS..
-        compare [--seed N] --write-vectors FILE
+        compare [--seed N] --write-vectors FOLDER
         compare --replay FILE
         compare --store FOLDER
   --seed N       seed of the random inputs (1)
@@ -47,7 +47,7 @@ pub const USAGE: &str =
   --only LIST    of place, coverage, same, horizon, range, judge, lists
   --all          a check that is skipped counts as failed
   --input ..     shows both answers to one input, its floats as 16 hex digits each, as a failure prints them
-  --write-vectors FILE   writes the list of the original's answers that the program `vectors` replays
+  --write-vectors FOLDER writes the stored answers of the original below the repository's folder: samples/vectors and what the program `vectors` replays
   --replay FILE  answers a list of calls by the document's whole numbers (- is standard input)
   --store FOLDER writes the stored lists, NAME.txt, and the original's answers to them, NAME.out";
 

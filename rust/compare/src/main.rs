@@ -79,18 +79,18 @@ fn show(name: &str, floats: &[f64]) {
     }
 }
 
-/// Writes the original's answers to a file.
-fn write_vectors(seed: u64, file: &str) -> ExitCode {
+/// Writes the original's answers below a folder.
+fn write_vectors(seed: u64, folder: &str) -> ExitCode {
     if !oracle::FOUND {
         return ExitCode::FAILURE;
     }
-    match vectors::write(seed, file) {
+    match vectors::write(seed, folder) {
         Ok(answers) => {
-            println!("{file}: {answers} answers, seed {seed}");
+            println!("{folder}: {answers} answers, seed {seed}");
             ExitCode::SUCCESS
         }
         Err(wrong) => {
-            eprintln!("{file}: {wrong}");
+            eprintln!("{folder}: {wrong}");
             ExitCode::FAILURE
         }
     }
@@ -115,8 +115,8 @@ fn main() -> ExitCode {
         show(name, floats);
         return ExitCode::SUCCESS;
     }
-    if let Some(file) = &args.write_vectors {
-        return write_vectors(args.seed, file);
+    if let Some(folder) = &args.write_vectors {
+        return write_vectors(args.seed, folder);
     }
     if let Some(folder) = args.store.as_ref().filter(|_| oracle::FOUND) {
         return stored::store(folder, args.seed);

@@ -1,6 +1,7 @@
-//! The list of the original's answers that the program `vectors` replays where no Rust is at hand:
-//! calls under no excuse, and rows for each of the judging's ends. Where the document's whole
-//! numbers answer otherwise than the original, a call is left out.
+//! The original's answers, stored so that they can be replayed where no Rust is at hand: calls
+//! under no excuse (the program `calls`), and rows for each of the judging's ends (the program
+//! `vectors`). Where the document's whole numbers answer otherwise than the original, a call is
+//! left out.
 
 use std::collections::HashSet;
 use std::fmt::Write;
@@ -31,38 +32,79 @@ const ROWS: usize = 24;
 const SPARSE: usize = 130;
 const JUNK: usize = 6;
 
-/// Writes the list; answers how many lines have an answer.
-pub fn write(seed: u64, file: &str) -> io::Result<usize> {
-    let mut text = head(seed);
-    places(&mut Rng::new(seed, "vectors place"), &mut text);
-    sames(&mut Rng::new(seed, "vectors same"), &mut text);
-    horizons(&mut Rng::new(seed, "vectors horizon"), &mut text);
-    buckets(&mut Rng::new(seed, "vectors bucket"), &mut text);
-    bits(&mut Rng::new(seed, "vectors bit"), &mut text);
-    sheet(&mut text);
-    judgings(&mut Rng::new(seed, "vectors judging"), &mut text);
-    let answers = text.lines().filter(|line| line.contains(" = "));
-    let answers = answers.filter(|line| !line.starts_with('#')).count();
-    std::fs::write(file, text)?;
-    Ok(answers)
+/// Writes both lists and their answers below the repository's folder; answers how many there are.
+pub fn write(seed: u64, folder: &str) -> io::Result<usize> {
+    let mut calls = Stored::new(calls_head(seed));
+    places(&mut Rng::new(seed, "vectors place"), &mut calls);
+    sames(&mut Rng::new(seed, "vectors same"), &mut calls);
+    horizons(&mut Rng::new(seed, "vectors horizon"), &mut calls);
+    buckets(&mut Rng::new(seed, "vectors bucket"), &mut calls);
+    bits(&mut Rng::new(seed, "vectors bit"), &mut calls);
+    let mut rows = Stored::new(rows_head(seed));
+    sheet(&mut rows);
+    judgings(&mut Rng::new(seed, "vectors judging"), &mut rows);
+    calls.write(folder, ["samples/vectors.txt", "samples/vectors.out"])?;
+    rows.write(folder, ["crates/vectors/stdin", "crates/vectors/stdout"])?;
+    let judgings = rows.list.lines().filter(|line| line.starts_with("judging"));
+    Ok(calls.answers.lines().count() + judgings.count())
 }
 
-/// What the list is, and how it was made.
-fn head(seed: u64) -> String {
+/// A list, and what the program that replays it must print.
+struct Stored {
+    list: String,
+    answers: String,
+}
+
+impl Stored {
+    fn new(list: String) -> Self {
+        let answers = String::new();
+        Stored { list, answers }
+    }
+
+    /// A call and its answer.
+    fn call(&mut self, call: std::fmt::Arguments, answer: std::fmt::Arguments) {
+        line(&mut self.list, call);
+        line(&mut self.answers, answer);
+    }
+
+    /// The end of the rows of one kind: they are counted under this name, and none differs.
+    fn count(&mut self, name: &str, rows: usize) {
+        line(&mut self.list, format_args!("count {name}"));
+        line(
+            &mut self.answers,
+            format_args!("{name}: {rows} vectors, 0 differ, 0 unread"),
+        );
+    }
+
+    fn write(&self, folder: &str, [list, answers]: [&str; 2]) -> io::Result<()> {
+        std::fs::write(format!("{folder}/{list}"), &self.list)?;
+        std::fs::write(format!("{folder}/{answers}"), &self.answers)
+    }
+}
+
+/// What the list of calls is, and how it was made.
+fn calls_head(seed: u64) -> String {
     format!(
-        "# Answers of the original (siting.rs of sky-commons/tally 2883b6607a, unchanged), replayed by the program `vectors`.
-# Made in rust/ by: cargo run --release -p compare -- --seed {seed} --write-vectors ../crates/vectors/stdin
+        "# Answers of the unchanged Rust, stored: what each line is answered stands in vectors.out. Made in rust/ by
+#   cargo run --release -p compare -- --seed {seed} --write-vectors ..
+# from siting.rs of sky-commons/tally 2883b6607a, away from document 01's excused edges.
+# The Rust's aircraft bit is a word with one bit; stored is which.
+"
+    )
+}
+
+/// What the list of rows is, and how it was made.
+fn rows_head(seed: u64) -> String {
+    format!(
+        "# Judgings with the answers of the unchanged Rust, stored: the program `vectors` judges each row and counts the answers that differ. Made in rust/ by
+#   cargo run --release -p compare -- --seed {seed} --write-vectors ..
+# from siting.rs of sky-commons/tally 2883b6607a: rows for each end of the judging, few cells each, from as many ways of making them as reach it.
 #
-#   place LAT1 LON1 LAT2 LON2 = N      the place at which `heard` counts a position: cell 0 to 1,599, or 1,600 + far bin
-#   same LAT1 LON1 LAT2 LON2 = 0|1     `same_place`
-#   horizon A B = HEX                  `horizon_km`, the bits of its f64
-#   bucket FEET|- = N                  `bucket`
-#   bit ADDRESS = N                    `aircraft_bit`: the word with that one bit
-#   cell I WORD                        sets cell I of the row's 3,344 (the even half's first), all empty at the start and after a judging
-#   judging ALT|-|none EVEN|- ODD|- NOW_MS AIRCRAFT = unjudged | fits | wrong OFF horizon|nearfield|nothingnear
-#   count NAME                         the end of a part of the list: its vectors are counted under this name
-#
-# A number is a decimal with a point, or the 16 hex digits of an f64.
+#   cell I WORD     sets cell I of the row's 3,344 (the even half's 1,600 grid cells and 72 far bins, then the odd half's); all are empty at the start and after a judging
+#   judging EVEN ODD SITE ALT NOW_MS AIRCRAFT ANSWER
+#                   the ids of both halves, 1 where a site is claimed, its altitude in metres; - is none
+#                   ANSWER: 0 Unjudged, 1 Fits, Wrong 4 x distance + 1 (Horizon), 2 (NearField) or 3 (NothingNear)
+#   count NAME      prints how many vectors there were since the last count, how many differ, and how many lines could not be read
 "
     )
 }
@@ -114,7 +156,7 @@ fn made(rng: &mut Rng, ways: &[(&str, degrees::Maker)]) -> (Degrees, Degrees) {
 }
 
 /// Placings: the middle of every far bin, then those of cells from the whole grid and made pairs.
-fn places(rng: &mut Rng, text: &mut String) {
+fn places(rng: &mut Rng, calls: &mut Stored) {
     let mut counter = Counter::new();
     let mut next = 0;
     while next < FAR_BINS + PLACED {
@@ -133,15 +175,17 @@ fn places(rng: &mut Rng, text: &mut String) {
         }
         let theirs = counter.place(site, at);
         if theirs == ticks::place(site, at) {
-            line(text, format_args!("place {from} {to} = {theirs}"));
+            calls.call(
+                format_args!("place {from} {to}"),
+                format_args!("place {theirs}"),
+            );
             next += 1;
         }
     }
-    line(text, format_args!("count place"));
 }
 
 /// Same places, as many of each answer.
-fn sames(rng: &mut Rng, text: &mut String) {
+fn sames(rng: &mut Rng, calls: &mut Stored) {
     let mut left = [SAMES; 2];
     while left != [0; 2] {
         let (held, claimed) = made(rng, &SAME);
@@ -153,14 +197,16 @@ fn sames(rng: &mut Rng, text: &mut String) {
         if left[usize::from(theirs)] > 0 && theirs == ticks::same_place(held, claimed) {
             left[usize::from(theirs)] -= 1;
             let answer = u8::from(theirs);
-            line(text, format_args!("same {from} {to} = {answer}"));
+            calls.call(
+                format_args!("same {from} {to}"),
+                format_args!("same {answer}"),
+            );
         }
     }
-    line(text, format_args!("count same"));
 }
 
 /// Horizons: each special height beside another, then made ones. A zero's sign is excused.
-fn horizons(rng: &mut Rng, text: &mut String) {
+fn horizons(rng: &mut Rng, calls: &mut Stored) {
     let mut special = horizon::SPECIAL.into_iter();
     let mut left = HORIZONS;
     while left > 0 {
@@ -173,42 +219,49 @@ fn horizons(rng: &mut Rng, text: &mut String) {
         if theirs.to_bits() != (-0.0_f64).to_bits() {
             let bits = [antenna, aircraft, theirs].map(f64::to_bits);
             let [a, b, km] = bits;
-            line(text, format_args!("horizon {a:016x} {b:016x} = {km:016x}"));
+            calls.call(
+                format_args!("horizon {a:016x} {b:016x}"),
+                format_args!("horizon {km:016x}"),
+            );
             left -= 1;
         }
     }
-    line(text, format_args!("count horizon"));
 }
 
 /// Altitude buckets: none, beside each end, and any.
-fn buckets(rng: &mut Rng, text: &mut String) {
-    line(text, format_args!("bucket - = {}", Original::bucket(None)));
+fn buckets(rng: &mut Rng, calls: &mut Stored) {
+    let none = Original::bucket(None);
+    calls.call(format_args!("bucket -"), format_args!("bucket {none}"));
     let ends = [0, 500, 1_000, 126_500, 127_000, 127_500, 128_000];
     let beside = ends.iter().flat_map(|end| [end - 1, *end, end + 1]);
     let far = [i32::MIN, i32::MIN + 1, -500, i32::MAX - 1, i32::MAX];
     let made: Vec<i32> = (0..40).map(|_| rng.int(-2_000, 140_000) as i32).collect();
     for feet in beside.chain(far).chain(made) {
         let theirs = Original::bucket(Some(feet));
-        line(text, format_args!("bucket {feet} = {theirs}"));
+        calls.call(
+            format_args!("bucket {feet}"),
+            format_args!("bucket {theirs}"),
+        );
     }
-    line(text, format_args!("count bucket"));
 }
 
 /// Aircraft bits: small addresses, single bits, and any of 24 or 32 bits.
-fn bits(rng: &mut Rng, text: &mut String) {
+fn bits(rng: &mut Rng, calls: &mut Stored) {
     let single = (2..32).map(|bit| 1 << bit);
     let made: Vec<u32> = (0..60)
         .map(|_| rng.next() as u32 >> rng.pick(&[0, 8]))
         .collect();
     for address in [0, 1, 2, 3, u32::MAX].into_iter().chain(single).chain(made) {
-        let theirs = Original::aircraft_bit(address);
-        line(text, format_args!("bit {address} = {theirs}"));
+        let theirs = Original::aircraft_bit(address).trailing_zeros();
+        calls.call(
+            format_args!("bit {address}"),
+            format_args!("bit {theirs}"),
+        );
     }
-    line(text, format_args!("count bit"));
 }
 
 /// The sheet's P10: 60 positions in bin 0 and 15 aircraft; 59; 14 aircraft.
-fn sheet(text: &mut String) {
+fn sheet(rows: &mut Stored) {
     for (positions, aircraft) in [(60, 15), (59, 15), (60, 14)] {
         let mut cells = Box::new([EMPTY; CELLS]);
         cells[GRID] = packed(positions, 255, 1);
@@ -223,13 +276,13 @@ fn sheet(text: &mut String) {
             aircraft,
         };
         let theirs = Row::new(&case.held, &case.cells).judge(case.now_ms, case.aircraft);
-        judging(text, &case, theirs);
+        judging(&mut rows.list, &case, theirs);
     }
-    line(text, format_args!("count judging, the sheet's P10"));
+    rows.count("the sheet's P10", 3);
 }
 
 /// Rows for each end of the judging, from as many ways of making them as reach it with few cells.
-fn judgings(rng: &mut Rng, text: &mut String) {
+fn judgings(rng: &mut Rng, rows: &mut Stored) {
     let mut parts = vec![Part::default(); Branch::ALL.len() + 1];
     for turn in 0.. {
         let way = turn % WAYS.len();
@@ -253,9 +306,8 @@ fn judgings(rng: &mut Rng, text: &mut String) {
     }
     let names = Branch::ALL.iter().map(|branch| branch.name());
     for (part, name) in parts.iter().zip(names.chain(["NearField, exact ties"])) {
-        text.push_str(&part.text);
-        let name = name.replace(": ", ", ");
-        line(text, format_args!("count judging, {name}"));
+        rows.list.push_str(&part.text);
+        rows.count(&name.replace(": ", ", "), part.rows);
     }
 }
 
@@ -301,26 +353,15 @@ fn judging(text: &mut String, case: &Case, theirs: Number) {
             line(text, format_args!("cell {at} {word}"));
         }
     }
-    let site = match case.held.site {
-        None => "none".to_string(),
-        Some(None) => "-".to_string(),
-        Some(Some(metres)) => metres.to_string(),
-    };
-    let [even, odd] = case
-        .held
-        .ids
-        .map(|id| id.map_or("-".to_string(), |id| id.to_string()));
-    let answer = match (theirs / 4, theirs % 4) {
-        (0, 0) => "unjudged".to_string(),
-        (0, _) => "fits".to_string(),
-        (off, 1) => format!("wrong {off} horizon"),
-        (off, 2) => format!("wrong {off} nearfield"),
-        (off, _) => format!("wrong {off} nothingnear"),
-    };
+    let word = |id: Option<u64>| id.map_or("-".to_string(), |id| id.to_string());
+    let [even, odd] = case.held.ids.map(word);
+    let site = word(case.held.site.map(|_| 1));
+    let alt = case.held.site.flatten();
+    let alt = alt.map_or("-".to_string(), |metres| metres.to_string());
     let (now_ms, aircraft) = (case.now_ms, case.aircraft);
     line(
         text,
-        format_args!("judging {site} {even} {odd} {now_ms} {aircraft} = {answer}"),
+        format_args!("judging {even} {odd} {site} {alt} {now_ms} {aircraft} {theirs}"),
     );
 }
 
