@@ -1,7 +1,6 @@
-// C functions for the comparison runs only: what the relay does not call, and what it calls under another name.
+// C functions for the comparison runs only: what the relay does not call.
 ghost use mathlib.Core.Path.{_≡_};
-ghost use Rattle.floats.specs.Horizon.{horizon};
-ghost use Rattle.sites.specs.Sites.{placing};
+ghost use Rattle.sites.specs.declared.Altitude.the-variants as altitudes;
 ghost use Rattle.probes.specs.Probes.{sameAnswer};
 use floats::degrees;
 use sites::Altitude;
@@ -11,7 +10,7 @@ pub mod row;
 
 // A site of no altitude.
 fn site_at(lat: f64, lon: f64) -> Site
-    ensures { λ r. ⌜ (r .lat ≡ lat) × (r .lon ≡ lon) ⌝ }
+    ensures { λ r. ⌜ (r .lat ≡ lat) × (r .lon ≡ lon) × (r .«alt_m» ≡ altitudes.Unknown) ⌝ }
 {
     Site {
         lat: lat,
@@ -34,18 +33,4 @@ pub extern "C" fn probe_same_place(lat1: f64, lon1: f64, lat2: f64, lon2: f64) -
         }
     }
     4
-}
-
-#[no_mangle]
-pub extern "C" fn probe_place(site_lat: f64, site_lon: f64, lat: f64, lon: f64) -> u16
-    ensures { λ r. ⌜ r ≡ placing «site_lat» «site_lon» lat lon ⌝ }
-{
-    sites::place(site_lat, site_lon, lat, lon)
-}
-
-#[no_mangle]
-pub extern "C" fn probe_horizon_km(antenna_m: f64, aircraft_m: f64) -> f64
-    ensures { λ r. ⌜ r ≡ horizon «antenna_m» «aircraft_m» ⌝ }
-{
-    floats::horizon::horizon_km(antenna_m, aircraft_m)
 }
