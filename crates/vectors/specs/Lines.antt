@@ -48,16 +48,16 @@ metresIn s = cond (sameBytes s (45 ∷ [])) (record { tag = 0; m = pos 0; good =
 -- judging EVEN ODD SITE ALT NOW_MS AIRCRAFT ANSWER, and no more
 abbrev pub rowOf : List ℕ → Row
 rowOf t =
-    record
-      { even = wholeIn (wordOf 1 t)
-      ; odd = wholeIn (wordOf 2 t)
-      ; site = wholeIn (wordOf 3 t)
-      ; alt = metresIn (wordOf 4 t)
-      ; «now_ms» = wholeIn (wordOf 5 t)
-      ; aircraft = wholeIn (wordOf 6 t)
-      ; answer = wholeIn (wordOf 7 t)
-      ; ended = endedAt 8 t
-      }
+    record {
+      even = wholeIn (wordOf 1 t);
+      odd = wholeIn (wordOf 2 t);
+      site = wholeIn (wordOf 3 t);
+      alt = metresIn (wordOf 4 t);
+      «now_ms» = wholeIn (wordOf 5 t);
+      aircraft = wholeIn (wordOf 6 t);
+      answer = wholeIn (wordOf 7 t);
+      ended = endedAt 8 t;
+    }
 
 abbrev pub readableRow : Row → Bool
 readableRow r = ((r .even .good && r .odd .good) && (r .site .good && r .alt .good)) && ((r .«now_ms» .good && r .aircraft .good) && (r .answer .good && r .ended))
