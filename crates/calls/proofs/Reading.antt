@@ -1,7 +1,7 @@
 -- The ways out of the functions that read a line. Each law takes what the callees answered, in turn, and gives the definition's value: an answer
 -- that is wrong ends the reading, any other one goes on.
 use mathlib.Core.Path.{_≡_, refl, sym, ap, _∙_}
-use mathlib.Core.Bool.{Bool, true, false}
+use mathlib.Core.Bool.{true, false}
 use mathlib.Core.List.{List, [], _∷_}
 use Prim.Native.Nat.{ℕ, _-_, _^_, _≤_}
 use lib.ListN.{length}
@@ -202,9 +202,6 @@ module _ (a b : Site) where
   same-first h = rw h
 
 -- ---- the words
-pub word-is : {w p : List ℕ} {b r : Bool} (word : List ℕ) → w ≡ p → r ≡ sameBytes w word → r ≡ b → sameBytes p word ≡ b
-word-is word e h g = ap (λ (z : List ℕ). sameBytes z word) (sym e) ∙ sym h ∙ g
-
 module _ (t : List ℕ) (end next : ℕ) where
   pub call-place : sameBytes (partOf t 0 end) wordPlace ≡ true → placeBy (fourAt t next) ≡ callOf t end next
   unfolding callOf

@@ -105,6 +105,7 @@ fn rows_head(seed: u64) -> String {
 #                   the ids of both halves, 1 where a site is claimed, its altitude in metres; - is none
 #                   ANSWER: 0 Unjudged, 1 Fits, Wrong 4 x distance + 1 (Horizon), 2 (NearField) or 3 (NothingNear)
 #   count NAME      prints how many vectors there were since the last count, how many differ, and how many lines could not be read
+# A line whose first word is # is a comment. Words are separated by single spaces.
 "
     )
 }
@@ -253,10 +254,7 @@ fn bits(rng: &mut Rng, calls: &mut Stored) {
         .collect();
     for address in [0, 1, 2, 3, u32::MAX].into_iter().chain(single).chain(made) {
         let theirs = Original::aircraft_bit(address).trailing_zeros();
-        calls.call(
-            format_args!("bit {address}"),
-            format_args!("bit {theirs}"),
-        );
+        calls.call(format_args!("bit {address}"), format_args!("bit {theirs}"));
     }
 }
 

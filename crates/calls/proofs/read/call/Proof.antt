@@ -4,7 +4,8 @@ use mathlib.Core.Path.{_≡_, _∙_}
 use borrow.Author.Needs.{needs}
 use Rattle.fields.specs.Text.{partOf, sameBytes}
 use Rattle.calls.specs.Replies.{wordPlace, wordSame, wordHorizon, wordBucket, wordBit}
-use Rattle.calls.proofs.Reading.{word-is, call-place, call-same, call-horizon, call-bucket, call-bit, call-none}
+use Rattle.lines.proofs.Words.{word-is}
+use Rattle.calls.proofs.Reading.{call-place, call-same, call-horizon, call-bucket, call-bit, call-none}
 use Rattle.calls.proofs.read.call.Statement.{statement}
 use Rattle.calls.proofs.read.call.Tie as tie
 

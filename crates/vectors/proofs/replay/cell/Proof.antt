@@ -1,7 +1,7 @@
 -- `vectors::replay::cell` meets its contract: what is set is what the words say.
 use mathlib.Core.Path.{ap, _∙_}
 use Rattle.vectors.specs.Lines.{wholeIn}
-use Rattle.vectors.proofs.Words.{cell-is}
+use Rattle.vectors.proofs.Replaying.{cell-is}
 use borrow.Author.Needs.{needs}
 use Rattle.vectors.proofs.replay.cell.Statement.{statement}
 use Rattle.vectors.proofs.replay.cell.Tie as tie

@@ -1,6 +1,6 @@
--- `vectors::replay::compared` meets its contract: each way out is a law of `Words`.
+-- `vectors::replay::compared` meets its contract: each way out is a law of `Replaying`.
 use mathlib.Core.Path.{_∙_}
-use Rattle.vectors.proofs.Words.{compared-unread, compared-same, compared-differ}
+use Rattle.vectors.proofs.Replaying.{compared-unread, compared-same, compared-differ}
 use borrow.Author.Needs.{needs}
 use Rattle.vectors.proofs.replay.compared.Statement.{statement}
 use Rattle.vectors.proofs.replay.compared.Tie as tie

@@ -1,7 +1,7 @@
 -- `vectors::replay::judged` meets its contract: the altitude is what was read, through the machine's form of a signed number.
 use mir.Syntax.{w32}
 use mir.Facts.{toZ-ofZ}
-use Rattle.vectors.proofs.Words.{judged-is}
+use Rattle.vectors.proofs.Replaying.{judged-is}
 use borrow.Author.Needs.{needs}
 use Rattle.vectors.proofs.replay.judged.Statement.{statement}
 use Rattle.vectors.proofs.replay.judged.Tie as tie

@@ -1,5 +1,5 @@
 -- `vectors::replay::judging` meets its contract: the row is judged with the cells that were set.
-use Rattle.vectors.proofs.Words.{judging-is}
+use Rattle.vectors.proofs.Replaying.{judging-is}
 use borrow.Author.Needs.{needs}
 use Rattle.vectors.proofs.replay.judging.Statement.{statement}
 use Rattle.vectors.proofs.replay.judging.Tie as tie

@@ -1,8 +1,9 @@
--- `vectors::replay::taken` meets its contract: each way out is a law of `Words`, at the words that the first word was compared with.
+-- `vectors::replay::taken` meets its contract: each way out is a law of `Replaying`, at the words that the first word was compared with.
 use mathlib.Core.Path.{ap, _∙_}
 use Rattle.vectors.specs.Replays.{wordCell, wordJudging, wordCount, wordComment}
 use Rattle.vectors.specs.declared.replay.Counts.{Counts}
-use Rattle.vectors.proofs.Words.{word-is, after-cell, after-judging, after-count, after-comment, after-other}
+use Rattle.lines.proofs.Words.{word-is}
+use Rattle.vectors.proofs.Replaying.{after-cell, after-judging, after-count, after-comment, after-other}
 use borrow.Author.Needs.{needs}
 use Rattle.vectors.proofs.replay.taken.Statement.{statement}
 use Rattle.vectors.proofs.replay.taken.Tie as tie

@@ -1,6 +1,6 @@
--- `vectors::replay::with_cell` meets its contract: each way out is a law of `Words`.
+-- `vectors::replay::with_cell` meets its contract: each way out is a law of `Replaying`.
 use mathlib.Core.Path.{_∙_}
-use Rattle.vectors.proofs.Words.{cell-outside, cell-wide, cell-set, cell-bad}
+use Rattle.vectors.proofs.Replaying.{cell-outside, cell-wide, cell-set, cell-bad}
 use borrow.Author.Needs.{needs}
 use Rattle.vectors.proofs.replay.with_cell.Statement.{statement}
 use Rattle.vectors.proofs.replay.with_cell.Tie as tie

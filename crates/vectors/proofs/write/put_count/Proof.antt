@@ -1,7 +1,7 @@
 -- `vectors::write::put_count` meets its contract: the second text stands behind the first.
 use mathlib.Core.List.{[], _∷_}
 use Rattle.print.specs.Print.{decimalText}
-use Rattle.vectors.proofs.Words.{also}
+use Rattle.vectors.proofs.Replaying.{also}
 use borrow.Author.Needs.{needs}
 use Rattle.vectors.proofs.write.put_count.Statement.{statement}
 use Rattle.vectors.proofs.write.put_count.Tie as tie

@@ -1,7 +1,7 @@
 -- `vectors::write::put_counts` meets its contract: each text stands behind the one before.
 use mathlib.Core.List.{[], _∷_, _++_}
 use Rattle.vectors.specs.Print.{textColon, textVectors, textDiffer, textUnread, countText}
-use Rattle.vectors.proofs.Words.{also}
+use Rattle.vectors.proofs.Replaying.{also}
 use borrow.Author.Needs.{needs}
 use Rattle.vectors.proofs.write.put_counts.Statement.{statement}
 use Rattle.vectors.proofs.write.put_counts.Tie as tie

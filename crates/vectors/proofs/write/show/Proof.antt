@@ -1,6 +1,7 @@
 -- `vectors::write::show` meets its contract: a row of the table where the first word is `count`.
 use Rattle.vectors.specs.Replays.{wordCount}
-use Rattle.vectors.proofs.Words.{word-is, shown-count, shown-none}
+use Rattle.lines.proofs.Words.{word-is}
+use Rattle.vectors.proofs.Replaying.{shown-count, shown-none}
 use borrow.Author.Needs.{needs}
 use Rattle.vectors.proofs.write.show.Statement.{statement}
 use Rattle.vectors.proofs.write.show.Tie as tie
