@@ -31,7 +31,8 @@ pub struct State {
 fn no_cells() -> [u32; 3344]
     ensures { λ r. ⌜ r ≡ noCells ⌝ }
 {
-    let cells = [65280u32; 3344];
+    let empty = cells::empty_word();
+    let cells = [empty; 3344];
     cells
 }
 
