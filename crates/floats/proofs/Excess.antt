@@ -10,12 +10,12 @@ use lib.Ieee.{Float, nan, inf, fin, binary64, up, down, size, round, sum, add, s
 use lib.Ieee.Fits.{down-pos, and-l, sub-fits}
 use lib.Ieee.Bits.{is-false}
 use lib.Ieee.Order.{round-mono}
-use Rattle.floats.specs.Root.{root, rootUnits, isqrt, plain}
-use Rattle.floats.specs.Horizon.{atLeastZero, plusZero, horizon, allowance, fourTwelve, elevenTenths, twenty, pastOf}
+use Rattle.root.specs.Root.{root, rootUnits, isqrt, plain, plusZero}
+use Rattle.floats.specs.Horizon.{atLeastZero, horizon, allowance, fourTwelve, elevenTenths, twenty, pastOf}
 use Rattle.floats.specs.declared.horizon.Past.the-variants.{By, No}
 use Rattle.floats.specs.Steps.{distance}
 use Rattle.floats.specs.Rank.{Good}
-use Rattle.floats.proofs.Signs.{true-not-false}
+use Rattle.root.proofs.Signs.{true-not-false}
 use Rattle.floats.proofs.Tests.{at-most}
 use Rattle.floats.proofs.Quotient.{plus, units-plus, round-plus}
 

@@ -7,8 +7,8 @@ use native.Mathlib.Nat.{le-trans, le-of-lt}
 use native.Mathlib.Omega.{arith}
 use lib.Dec.{T, ltb, ltb→lt, nltb→le}
 use lib.Ieee.{Float, lt}
-use Rattle.floats.specs.Root.{unitsOf}
-use Rattle.floats.proofs.Units.{lt-units}
+use Rattle.root.specs.Root.{unitsOf}
+use Rattle.root.proofs.Units.{lt-units}
 use Rattle.floats.specs.Rank.{insert, sorted, Good, AllGood, AtMost, Ascending, count}
 
 yes-less : (x y : Float) → Good x → Good y → lt x y ≡ true → unitsOf x ≤ unitsOf y

@@ -14,7 +14,7 @@ use lib.Ieee.Exact.{HasValue, round-exact}
 use lib.Ieee.Positive.{num, den}
 use Rattle.floats.specs.Degrees.{nearestUp}
 use Rattle.floats.specs.Steps.{halfAway, countable}
-use Rattle.floats.proofs.Units.{digits, not-too-low, in-units}
+use Rattle.root.proofs.Units.{digits, not-too-low, in-units}
 
 -- ---- 2 ^ t times a value, exactly, as long as it is at most 2 ^ 60
 

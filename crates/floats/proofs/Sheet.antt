@@ -5,12 +5,12 @@ use Prim.Native.Nat.{_^_, _*_}
 use lib.Dec.{lit<, lit≤}
 use lib.IntN.{pos, negsuc}
 use lib.Ieee.{Float, fin, binary64, units, round, add, mul, div, lt}
-use Rattle.floats.specs.Root.{root}
-use Rattle.floats.specs.Horizon.{horizon, fourTwelve, atLeastZero, plusZero}
+use Rattle.root.specs.Root.{root, plusZero}
+use Rattle.floats.specs.Horizon.{horizon, fourTwelve, atLeastZero}
 use Rattle.floats.specs.Degrees.{tickOf}
 use Rattle.floats.specs.Steps.{offOf, halfAway}
-use Rattle.floats.proofs.Pattern.{root-is}
-use Rattle.floats.proofs.Value.{root-value}
+use Rattle.root.proofs.Pattern.{root-is}
+use Rattle.root.proofs.Value.{root-value}
 
 -- ---- P1: off 7.4 gives 5; 7.5 gives 10; 0 gives 5
 

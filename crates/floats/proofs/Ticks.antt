@@ -15,8 +15,8 @@ use mir.Val.{toZ, SFits}
 use mir.Facts.{toZ-pos}
 use Rattle.floats.specs.Degrees.{nearestUp, within, tickOf}
 use Rattle.floats.specs.Steps.{countable, halfAway}
-use Rattle.floats.specs.Horizon.{plusZero}
-use Rattle.floats.proofs.Signs.{true-not-false, minus-below, plus-not-below, zero-equal, not-equal}
+use Rattle.root.specs.Root.{plusZero}
+use Rattle.root.proofs.Signs.{true-not-false, minus-below, plus-not-below, zero-equal, not-equal}
 use Rattle.floats.proofs.Scaled.{scaled, counts, rounded}
 
 abbrev pub two24 : Float

@@ -3,12 +3,9 @@ use Prim.Native.Nat.{ℕ, _+_, _*_}
 use mathlib.Core.Bool.{false, cond}
 use lib.IntN.{ℤ, pos, negsuc}
 use lib.Ieee.{Float, fin, binary64, round, ofInt, add, sub, mul, lt}
-use Rattle.floats.specs.Root.{root}
+use Rattle.root.specs.Root.{root, plusZero}
 use Rattle.floats.specs.declared.horizon.Past.{Past}
 use Rattle.floats.specs.declared.horizon.Past.the-variants.{By, No}
-
-abbrev pub plusZero : Float
-plusZero = fin false 0 (pos 0)
 
 -- "a NaN, negative or either zero taken as +0": none of these is above zero.
 unfoldable pub atLeastZero : Float → Float

@@ -1,5 +1,4 @@
 -- What the crate computes in f64, from document 01. Each file has its sentences in 01's order.
-pub mod Root
 pub mod Horizon
 pub mod Degrees
 pub mod Steps

@@ -4,7 +4,7 @@ use mathlib.Core.Bool.{Bool, cond}
 use mathlib.Core.List.{List, [], _∷_}
 use lib.Dec.{T}
 use lib.Ieee.{Float, binary64, fits, lt}
-use Rattle.floats.specs.Root.{unitsOf, plain}
+use Rattle.root.specs.Root.{unitsOf, plain}
 
 -- x put into a list: going up, the smaller of the two stays, and the larger goes on
 unfoldable pub insert : Float → List Float → List Float

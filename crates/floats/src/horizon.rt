@@ -1,7 +1,6 @@
 // The radio horizon, the heights that go into it, and how far an edge is past what it allows.
 ghost use mathlib.Core.Path.{_≡_};
 ghost use Rattle.floats.specs.Horizon.{atLeastZero, horizon, allowance, antennaOf, ceilingOf, pastOf};
-use super::root;
 
 // x, or +0 where x is a NaN, negative or either zero.
 pub fn at_least_zero(x: f64) -> f64

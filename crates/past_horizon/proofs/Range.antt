@@ -13,7 +13,7 @@ use lib.Ieee.Fits.{sub-fits}
 use lib.ListN.{length, getD}
 use Rattle.floats.specs.Horizon.{allowance, pastOf}
 use Rattle.floats.specs.Rank.{insert, sorted, AllGood, Ascending}
-use Rattle.floats.specs.Root.{plain}
+use Rattle.root.specs.Root.{plain}
 use Rattle.floats.specs.Steps.{distance}
 use Rattle.floats.specs.declared.horizon.Past.{Past}
 use Rattle.floats.specs.declared.horizon.Past.the-variants.{By, No}

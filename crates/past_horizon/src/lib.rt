@@ -1,7 +1,7 @@
 // The horizon part of a judging: how far the far bins' aircraft are past what the site could hear.
 ghost use mathlib.Core.Path.{_≡_};
 ghost use lib.Ieee.{Float};
-ghost use Rattle.floats.specs.Root.{root};
+ghost use Rattle.root.specs.Root.{root};
 ghost use Rattle.floats.specs.Horizon.{atLeastZero, allowance, pastOf};
 ghost use Rattle.past_horizon.specs.Horizon.{edgeOf, binPast, pastHorizon};
 use cells::Ceiling;
@@ -9,7 +9,6 @@ use cells::Cell;
 use floats::horizon;
 use floats::horizon::Past;
 use floats::rank;
-use floats::root;
 use sites::Site;
 use view::Far;
 

@@ -12,7 +12,8 @@ use Rattle.trig.specs.Series.{sinH, cosR, term}
 use Rattle.trig.specs.Angle.{sinQ, cosQ, sinHalf, cosHalf, sine, cosine}
 use Rattle.angles.specs.Plane.{near, column}
 use Rattle.angles.specs.Bearing.{sector}
-use Rattle.floats.specs.Horizon.{horizon, fourTwelve, plusZero}
+use Rattle.root.specs.Root.{plusZero}
+use Rattle.floats.specs.Horizon.{horizon, fourTwelve}
 use Rattle.floats.specs.Steps.{offOf}
 use Rattle.floats.proofs.Sheet as floats
 use Rattle.cells.specs.Cells.{bucketOf, bitNumber}

@@ -8,7 +8,7 @@ use lib.Ieee.{Float, binary64, fits, mul, lt, ofBits}
 use lib.Ieee.Positive.{num, den}
 use mir.Syntax.{w64}
 use mir.Facts.{toZ-ofZ}
-use Rattle.floats.specs.Horizon.{plusZero}
+use Rattle.root.specs.Root.{plusZero}
 use Rattle.floats.specs.Degrees.{nearestUp}
 use Rattle.floats.proofs.Ticks.{Ticks, two24, ticks-of, at-zero, countable-ticks, half-is, ticks-lt}
 use borrow.Author.Needs.{needs}

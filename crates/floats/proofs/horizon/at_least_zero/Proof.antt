@@ -2,7 +2,8 @@
 use mathlib.Core.Path.{sym, ap}
 use mathlib.Core.Bool.{Bool, cond}
 use lib.Ieee.{ofBits}
-use Rattle.floats.specs.Horizon.{atLeastZero, plusZero}
+use Rattle.floats.specs.Horizon.{atLeastZero}
+use Rattle.root.specs.Root.{plusZero}
 use Rattle.floats.proofs.horizon.at_least_zero.Statement.{statement}
 use Rattle.floats.proofs.horizon.at_least_zero.Tie as tie
 

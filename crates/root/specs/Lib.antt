@@ -1,0 +1,2 @@
+-- The square root, from document 01.
+pub mod Root
