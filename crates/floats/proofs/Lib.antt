@@ -8,7 +8,7 @@ pub mod Quotient
 pub mod Literals
 pub mod Excess
 -- the order of floats
-pub mod Lists
 pub mod Order
+pub mod Counted
 -- worked examples of 01
 pub mod Sheet

@@ -14,10 +14,10 @@ use Rattle.floats.specs.Rank.{insert, sorted, Good, AllGood, AtMost, Asc
 yes-less : (x y : Float) → Good x → Good y → lt x y ≡ true → unitsOf x ≤ unitsOf y
 yes-less x y g h e = le-of-lt (ltb→lt (unitsOf x) (unitsOf y) (subst T (sym (sym (lt-units x y (g .0) (g .1) (h .0) (h .1)) ∙ e)) tt))
 
-no-less : (x y : Float) → Good x → Good y → lt x y ≡ false → unitsOf y ≤ unitsOf x
+pub no-less : (x y : Float) → Good x → Good y → lt x y ≡ false → unitsOf y ≤ unitsOf x
 no-less x y g h e = nltb→le (unitsOf x) (unitsOf y) (subst (λ (b : Bool). T (not b)) (sym (sym (lt-units x y (g .0) (g .1) (h .0) (h .1)) ∙ e)) tt)
 
-weaker : (x y : Float) (l : List Float) → unitsOf x ≤ unitsOf y → AtMost y l → AtMost x l
+pub weaker : (x y : Float) (l : List Float) → unitsOf x ≤ unitsOf y → AtMost y l → AtMost x l
 weaker x y [] h a = tt
 weaker x y (z ∷ l) h a = (le-trans h (a .0), weaker x y l h (a .1))
 

@@ -1,26 +1,52 @@
-// The excesses in ascending order, in an array that is filled from its start.
+// One of some floats by its number in ascending order. They are not sorted: how many lie below each tells.
 ghost use mathlib.Core.Path.{_≡_};
-ghost use Prim.Native.Nat.{_+_, _<_, _≤_};
-ghost use lib.ListN.{take, getD, length};
-ghost use Rattle.floats.specs.Rank.{insert};
+ghost use mathlib.Core.Bool.{cond};
+ghost use Prim.Native.Nat.{_<_, _≤_};
+ghost use lib.Ieee.{Float, nan, lt};
+ghost use lib.ListN.{getD, length};
+ghost use Rattle.floats.specs.Rank.{sorted, AllGood, count};
 
-// x put among the first n of xs: going up, the smaller of the two stays, and the larger goes on.
-pub fn put(xs: [f64; 72], n: usize, x: f64) -> [f64; 72]
-    requires { ⌜ n < 72 ⌝ }
-    ensures { λ r. ⌜ take (n + 1) r ≡ insert x (take n xs) ⌝ }
+// 1 if yes, else 0.
+fn one(yes: bool) -> usize
+    ensures { λ r. ⌜ (r ≡ cond yes 1 0) × (r ≤ 1) ⌝ }
 {
-    let mut a = xs;
-    let mut c = x;
+    if yes { 1 } else { 0 }
+}
+
+// How many of xs are less than x.
+fn below(xs: &[f64], x: f64) -> usize
+    ensures { λ r. ⌜ (r ≡ count (λ (y : Float). lt y x) (now (xs .entry))) × (r ≤ length (now (xs .entry))) ⌝ }
+{
+    let mut n: usize = 0;
     let mut i: usize = 0;
-    while i < n {
-        let at = i;
-        let y = a[at];
+    while i < xs.len() {
+        n += one(xs[i] < x);
         i += 1;
-        if c < y {
-            a[at] = c;
-            c = y;
+    }
+    n
+}
+
+// Number k of xs, from 0, ascending: the largest that has at most k of them below it. Only those between two bounds are
+// tried, the largest so far that has and the smallest that has not, so that few are.
+pub fn nth(xs: &[f64], k: usize) -> f64
+    requires { ⌜ AllGood (now xs) × (k < length (now xs)) ⌝ }
+    ensures { λ r. ⌜ r ≡ getD (sorted (now (xs .entry))) k nan ⌝ }
+{
+    let mut low = 0.0;
+    let mut high = 1.0 / 0.0;
+    let mut i: usize = 0;
+    while i < xs.len() {
+        let x = xs[i];
+        i += 1;
+        if low < x {
+            if x < high {
+                if below(xs, x) <= k {
+                    low = x;
+                } else {
+                    high = x;
+                }
+            }
         }
     }
-    a[n] = c;
-    a
+    low
 }

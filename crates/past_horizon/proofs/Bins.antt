@@ -1,18 +1,17 @@
--- What the loop over the bins holds: the excesses so far lie ascending at the array's start, since putting one more among them is
--- what `sorted` does. Assumes nothing.
+-- What the loop over the bins holds: the excesses so far lie at the array's end, the latest bin's first. Assumes nothing.
 use mathlib.Core.Path.{_≡_, refl, sym, ap, _∙_}
 use mathlib.Core.Bool.{Bool, true, false, _&&_, cond}
 use mathlib.Core.List.{List, [], _∷_}
-use Prim.Native.Nat.{ℕ, suc, _+_, _*_, _/_, _≤_, _<_}
+use Prim.Native.Nat.{ℕ, suc, _+_, _-_, _*_, _/_, _≤_, _<_}
 use native.Mathlib.Omega.{arith}
 use borrow.Author.Tests.{le-leb, lt-leb}
 use lib.Bits.{bitOr}
 use lib.Count.{ones}
 use lib.Dec.{leb}
-use lib.Ieee.{Float, nan, lt}
-use lib.ListN.{length, getD, take}
-use lib.Seq.{getD-take}
-use Rattle.floats.specs.Rank.{insert, sorted}
+use lib.Ieee.{Float, nan}
+use lib.ListN.{length, getD, take, drop, set, length-set, length-drop, drop-of-length-le}
+use lib.Seq.{take-all, drop-cons, drop-set-lt, getD-set-same}
+use Rattle.floats.specs.Rank.{sorted}
 use Rattle.floats.specs.declared.horizon.Past.{Past}
 use Rattle.floats.specs.declared.horizon.Past.the-variants.{By, No}
 use Rattle.floats.specs.Horizon.{pastOf}
@@ -22,17 +21,6 @@ use Rattle.cells.specs.Passes.{pass}
 use Rattle.cells.proofs.Passes.{pass-next}
 use Rattle.view.specs.declared.Far.{Far}
 use Rattle.past_horizon.specs.Horizon.{edgeOf, underCeiling, binPast, excesses, pastPositions, pastAircraft, enoughPast, middle, horizonPast}
-
--- ---- sorting keeps the length
-insert-length : (x : Float) (l : List Float) → length (insert x l) ≡ suc (length l)
-unfolding insert
-insert-length x [] = refl
-insert-length x (y ∷ l) = ap suc (insert-length (cond (lt x y) y x) l)
-
-pub sorted-length : (l : List Float) → length (sorted l) ≡ length l
-unfolding sorted
-sorted-length [] = refl
-sorted-length (x ∷ l) = insert-length x (sorted l) ∙ ap suc (sorted-length l)
 
 -- ---- one bin
 module _ (w j : ℕ) (a : Float) where
@@ -49,52 +37,64 @@ module _ (w j : ℕ) (a : Float) where
   at-no-height e h = rw (e, h)
 
 -- ---- after i bins: sizes, and what was seen
-pub record Sizes (xs : List Float) (n positions i : ℕ) : Type 0 where
+pub record Sizes (xs : List Float) (at positions i : ℕ) : Type 0 where
   pub seen : i ≤ 72
   pub room : length xs ≡ 72
-  pub few : n ≤ i
+  pub few : 72 ≤ at + i
+  pub most : at ≤ 72
   pub small : positions ≤ 255 * i
 
-pub record Seen (bins : List ℕ) (a : Float) (xs : List Float) (n positions aircraft i : ℕ) : Type 0 where
-  pub many : n ≡ length (excesses bins a i)
-  pub ranked : take n xs ≡ sorted (excesses bins a i)
+pub record Seen (bins : List ℕ) (a : Float) (xs : List Float) (at positions aircraft i : ℕ) : Type 0 where
+  pub held : drop at xs ≡ excesses bins a i
   pub sum : positions ≡ pastPositions bins a i
   pub marks : aircraft ≡ pastAircraft bins a i
 
-pub none : (bins : List ℕ) (a : Float) (xs : List Float) → Seen bins a xs 0 0 0 0
-unfolding excesses pastPositions pastAircraft sorted pass
-none bins a xs = record { many = refl; ranked = refl; sum = refl; marks = refl }
+pub none : (bins : List ℕ) (a : Float) (xs : List Float) (at : ℕ) → length xs ≤ at → Seen bins a xs at 0 0 0
+unfolding excesses pastPositions pastAircraft pass
+none bins a xs at h = record { held = drop-of-length-le xs {i = at} h; sum = refl; marks = refl }
 
-module _ (bins : List ℕ) (a : Float) (xs : List Float) (n positions aircraft i : ℕ) (s : Seen bins a xs n positions aircraft i) where
+-- one more in front of those that fill an array from its end
+in-front : (xs : List Float) (at : ℕ) (x : Float) → suc at ≤ length xs → drop at (set xs at x) ≡ x ∷ drop (suc at) xs
+in-front xs at x h =
+    drop-cons (set xs at x) at nan (omega (arith, length-set xs at x))
+    ∙ ap (λ (y : Float). y ∷ drop (suc at) (set xs at x)) (getD-set-same xs at x nan h)
+    ∙ ap (λ (l : List Float). x ∷ l) (drop-set-lt (suc at) xs at x (omega arith))
+
+module _ (bins : List ℕ) (a : Float) (xs : List Float) (at positions aircraft i : ℕ) (s : Seen bins a xs at positions aircraft i) where
   pub one-past :
-      (ys : List Float) (km : Float) (c b : ℕ) → binPast (getD bins i 0) i a ≡ By km → take (n + 1) ys ≡ insert km (take n xs)
-      → c ≡ countOf (getD bins i 0) → b ≡ bitsOf (getD bins i 0) → Seen bins a ys (n + 1) (positions + c) (bitOr aircraft b) (i + 1)
-  unfolding excesses pastPositions pastAircraft sorted
-  one-past ys km c b e t ec eb = record {
-    many = rw (pass-next, e) (omega (arith, s .many));
-    ranked = rw (pass-next, e) (t ∙ ap (insert km) (s .ranked));
+      (km : Float) (c b : ℕ) → 1 ≤ at → at ≤ length xs → binPast (getD bins i 0) i a ≡ By km
+      → c ≡ countOf (getD bins i 0) → b ≡ bitsOf (getD bins i 0) → Seen bins a (set xs (at - 1) km) (at - 1) (positions + c) (bitOr aircraft b) (i + 1)
+  unfolding excesses pastPositions pastAircraft
+  one-past km c b low high e ec eb = record {
+    held =
+        rw (pass-next, e)
+        (in-front xs (at - 1) km (omega arith) ∙ ap (λ (j : ℕ). km ∷ drop j xs) (let n : suc (at - 1) ≡ at = omega arith in n) ∙ ap (λ (l : List Float). km ∷ l) (s .held));
     sum = rw (pass-next, e) (cc (s .sum, ec));
     marks = rw (pass-next, e) (cc (s .marks, eb));
   }
 
-  pub not-past : binPast (getD bins i 0) i a ≡ No → Seen bins a xs n positions aircraft (i + 1)
+  pub not-past : binPast (getD bins i 0) i a ≡ No → Seen bins a xs at positions aircraft (i + 1)
   unfolding excesses pastPositions pastAircraft
-  not-past e = record { many = rw (pass-next, e) (s .many); ranked = rw (pass-next, e) (s .ranked); sum = rw (pass-next, e) (s .sum); marks = rw (pass-next, e) (s .marks) }
+  not-past e = record { held = rw (pass-next, e) (s .held); sum = rw (pass-next, e) (s .sum); marks = rw (pass-next, e) (s .marks) }
 
--- ---- after all 72
+-- ---- after all 72: n of them are past
 pub record All (bins : List ℕ) (a : Float) (xs : List Float) (n positions aircraft : ℕ) : Type 0 where
-  pub many : n ≡ length (excesses bins a 72)
+  pub is : xs ≡ excesses bins a 72
+  pub many : n ≡ length xs
   pub sum : positions ≡ pastPositions bins a 72
   pub marks : aircraft ≡ pastAircraft bins a 72
-  pub at : (j : ℕ) → j < n → getD xs j nan ≡ getD (sorted (excesses bins a 72)) j nan
 
-pub all : (bins : List ℕ) (a : Float) (xs : List Float) (n positions aircraft i : ℕ) → Seen bins a xs n positions aircraft i → i ≡ 72 → All bins a xs n positions aircraft
-all bins a xs n positions aircraft i s e = record {
-  many = s .many ∙ ap (λ (k : ℕ). length (excesses bins a k)) e;
-  sum = s .sum ∙ ap (pastPositions bins a) e;
-  marks = s .marks ∙ ap (pastAircraft bins a) e;
-  at = λ j l. sym (getD-take n xs j nan l) ∙ ap (λ (z : List Float). getD z j nan) (s .ranked ∙ ap (λ (k : ℕ). sorted (excesses bins a k)) e);
-}
+pub all :
+    (bins : List ℕ) (a : Float) (xs : List Float) (at positions aircraft i : ℕ) → Sizes xs at positions i → Seen bins a xs at positions aircraft i → i ≡ 72
+    → All bins a (take (72 - at) (drop at xs)) (72 - at) positions aircraft
+all bins a xs at positions aircraft i z s e =
+    let whole = take-all (72 - at) (drop at xs) (omega (arith, z .room, length-drop at xs)) in
+    record {
+      is = whole ∙ s .held ∙ ap (excesses bins a) e;
+      many = omega (arith, z .room, length-drop at xs, ap length whole);
+      sum = s .sum ∙ ap (pastPositions bins a) e;
+      marks = s .marks ∙ ap (pastAircraft bins a) e;
+    }
 
 -- ---- the four answers
 -- of three tests the second fails, or the third
@@ -108,7 +108,7 @@ third-fails false y p = refl
 
 module _ (far : Far) (a : Float) (xs : List Float) (n positions aircraft : ℕ) (s : All (far .cells) a xs n positions aircraft) where
   bins-are : leb 3 (length (excesses (far .cells) a 72)) ≡ leb 3 n
-  bins-are = ap (leb 3) (sym (s .many))
+  bins-are = ap (λ (l : List Float). leb 3 (length l)) (sym (s .is)) ∙ ap (leb 3) (sym (s .many))
 
   aircraft-are : leb 3 (ones (pastAircraft (far .cells) a 72)) ≡ leb 3 (ones aircraft)
   aircraft-are = ap (λ (m : ℕ). leb 3 (ones m)) (sym (s .marks))
@@ -130,8 +130,8 @@ module _ (far : Far) (a : Float) (xs : List Float) (n positions aircraft : ℕ) 
       rw (positions-are ∙ lt-leb (far .positions) (positions * 20) h)
       (third-fails (leb 3 (length (excesses (far .cells) a 72))) (leb 3 (ones (pastAircraft (far .cells) a 72))) _)
 
-  pub enough : 3 ≤ n → 3 ≤ ones aircraft → far .positions ≤ positions * 20 → By (getD xs (n / 2) nan) ≡ horizonPast far a
+  pub enough : (x : Float) → 3 ≤ n → 3 ≤ ones aircraft → far .positions ≤ positions * 20 → x ≡ getD (sorted xs) (n / 2) nan → By x ≡ horizonPast far a
   unfolding horizonPast enoughPast middle
-  enough h k g =
+  enough x h k g e =
       rw (bins-are ∙ le-leb 3 n h, aircraft-are ∙ le-leb 3 (ones aircraft) k, positions-are ∙ le-leb (far .positions) (positions * 20) g)
-      (ap By (s .at (n / 2) (omega arith) ∙ ap (λ (m : ℕ). getD (sorted (excesses (far .cells) a 72)) (m / 2) nan) (s .many)))
+      (ap By (e ∙ ap (λ (m : ℕ). getD (sorted xs) (m / 2) nan) (s .many) ∙ ap (λ (l : List Float). getD (sorted l) (length l / 2) nan) (s .is)))

@@ -19,6 +19,7 @@ use Rattle.floats.specs.declared.horizon.Past.{Past}
 use Rattle.floats.specs.declared.horizon.Past.the-variants.{By, No}
 use Rattle.floats.proofs.Excess.{by-is, in-range}
 use Rattle.floats.proofs.Order.{sorted-ascending}
+use Rattle.floats.proofs.Counted.{sorted-length}
 use Rattle.cells.specs.Cells.{lowOf, occupiedWord, ceiling}
 use Rattle.cells.specs.Passes.{pass}
 use Rattle.cells.specs.declared.Ceiling.{Ceiling}
@@ -27,7 +28,6 @@ use Rattle.sites.specs.Sites.{antenna}
 use Rattle.sites.specs.declared.Site.{Site}
 use Rattle.view.specs.declared.Far.{Far}
 use Rattle.past_horizon.specs.Horizon.{edgeOf, underCeiling, binPast, withExcess, excesses, enoughPast, middle, horizonPast, pastHorizon}
-use Rattle.past_horizon.proofs.Bins.{sorted-length}
 
 -- ---- an edge is a distance
 edge-of : (b : ℕ) → b < 9 → (j : ℕ) → j % 9 ≡ b → T (distance (edgeOf j))
@@ -136,5 +136,8 @@ all-good : (l : List Float) → All l → AllGood l
 all-good [] a = tt
 all-good (x ∷ l) a = ((a .0 .fit, plain-of x (a .0 .near)), all-good l (a .1))
 
+pub excesses-good : (bins : List ℕ) (a : Float) (n : ℕ) → AllGood (excesses bins a n)
+excesses-good bins a n = all-good (excesses bins a n) (excesses-held bins a n)
+
 pub excesses-ascend : (bins : List ℕ) (a : Float) (n : ℕ) → Ascending (sorted (excesses bins a n))
-excesses-ascend bins a n = sorted-ascending (excesses bins a n) (all-good (excesses bins a n) (excesses-held bins a n))
+excesses-ascend bins a n = sorted-ascending (excesses bins a n) (excesses-good bins a n)

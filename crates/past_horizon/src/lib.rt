@@ -2,7 +2,7 @@
 ghost use mathlib.Core.Path.{_≡_};
 ghost use lib.Ieee.{Float};
 ghost use Rattle.root.specs.Root.{root};
-ghost use Rattle.floats.specs.Horizon.{atLeastZero, allowance, pastOf};
+ghost use Rattle.floats.specs.Horizon.{atLeastZero};
 ghost use Rattle.past_horizon.specs.Horizon.{edgeOf, binPast, pastHorizon};
 use cells::Ceiling;
 use cells::Cell;
@@ -20,24 +20,6 @@ fn edge_km(bin: usize) -> f64
     edges[bin % 9] as f64
 }
 
-// What a bin's edge may be at most, 1.1 × horizon + 20, from the root of the antenna's height: that is taken once for all bins.
-fn allowed_km(antenna_root: f64, aircraft_m: f64) -> f64
-    ensures { λ r. ⌜ ((a : Float) → «antenna_root» ≡ root (atLeastZero a) → r ≡ allowance a «aircraft_m») ⌝ }
-{
-    1.1 * (4.12 * (antenna_root + root::sqrt(horizon::at_least_zero(aircraft_m)))) + 20.0
-}
-
-// By how much an edge is past what is allowed, if it is.
-fn past_by(edge: f64, allowed: f64) -> Past
-    ensures { λ r. ⌜ ((a b : Float) → allowed ≡ allowance a b → r ≡ pastOf edge a b) ⌝ }
-{
-    if edge > allowed {
-        Past::By(edge - allowed)
-    } else {
-        Past::No
-    }
-}
-
 // By how much one bin is past the horizon: it has a count and an altitude, and its edge is past what is allowed.
 fn bin_past(w: u32, bin: usize, antenna_root: f64) -> Past
     ensures { λ r. ⌜ ((a : Float) → «antenna_root» ≡ root (atLeastZero a) → r ≡ binPast w bin a) ⌝ }
@@ -45,21 +27,22 @@ fn bin_past(w: u32, bin: usize, antenna_root: f64) -> Past
     if cells::occupied(w) {
         let ceiling = Cell::unpack(w).ceiling_m();
         return match ceiling {
-            Ceiling::Metres(m) => past_by(edge_km(bin), allowed_km(antenna_root, m)),
+            Ceiling::Metres(m) => horizon::past_by(edge_km(bin), antenna_root, m),
             Ceiling::NoAltitude => Past::No,
         };
     }
     Past::No
 }
 
-// The middle excess of the bins past the horizon, if enough are: three bins, three aircraft, one position in twenty.
+// The middle excess of the bins past the horizon, if enough are: three bins, three aircraft, one position in twenty. The excesses
+// fill an array from its end.
 pub fn past_horizon(site: Site, far: Far) -> Past
     ensures { λ r. ⌜ r ≡ pastHorizon site far ⌝ }
 {
-    let antenna_root = root::sqrt(horizon::at_least_zero(sites::antenna_m(site)));
+    let antenna_root = horizon::root_of(sites::antenna_m(site));
     let bins = far.cells;
     let mut xs = [0.0; 72];
-    let mut n: usize = 0;
+    let mut at: usize = 72;
     let mut positions: u32 = 0;
     let mut aircraft: u32 = 0;
     let mut i: usize = 0;
@@ -69,14 +52,15 @@ pub fn past_horizon(site: Site, far: Far) -> Past
         i += 1;
         match p {
             Past::By(km) => {
-                xs = rank::put(xs, n, km);
-                n += 1;
+                at -= 1;
+                xs[at] = km;
                 positions += cells::count_of(w);
                 aircraft = aircraft | cells::bits_of(w);
             }
             Past::No => {}
         }
     }
+    let n = 72 - at;
     if n < 3 {
         return Past::No;
     }
@@ -86,5 +70,5 @@ pub fn past_horizon(site: Site, far: Far) -> Past
     if positions * 20 < far.positions {
         return Past::No;
     }
-    Past::By(xs[n / 2])
+    Past::By(rank::nth(&xs[at..], n / 2))
 }

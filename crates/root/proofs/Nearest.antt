@@ -212,7 +212,8 @@ root-is-nearest x f pl p =
 same-units : (a b : ℕ) → (a < b → ⊥) → (b < a → ⊥) → a ≡ b
 same-units a b h k = omega arith
 
-by-units : (r t : Float) → T (fits binary64 r) → T (plain r) → T (fits binary64 t) → T (plain t) → unitsOf r ≡ unitsOf t → r ≡ t
+-- a value is known by its units
+pub by-units : (r t : Float) → T (fits binary64 r) → T (plain r) → T (fits binary64 t) → T (plain t) → unitsOf r ≡ unitsOf t → r ≡ t
 by-units r t fr pr ft pt e =
     sym (ofBits-toBits binary64 r fr)
     ∙ ap (λ (b : ℕ). ofBits binary64 b) (bits-of r (unitsOf r) (own-units r fr pr) ∙ ap (λ (a : ℕ). (size a - 53) * 2 ^ 52 + a / 2 ^ (size a - 53)) e ∙ sym (bits-of t (unitsOf t) (own-units t ft pt)))

@@ -24,9 +24,6 @@ enum-known-ceiling c = search needs
 edge-km-requires : tie.Need-edge-km-requires
 edge-km-requires c κs = search needs
 
-allowed-km-requires : tie.Need-allowed-km-requires
-allowed-km-requires c κs = search needs
-
 past-by-requires : tie.Need-past-by-requires
 past-by-requires c κs = search needs
 
@@ -34,7 +31,7 @@ enum-told : tie.Need-enum-told
 enum-told c = search needs
 
 returns : tie.Need-returns
-returns c = λ a h. let s = c .before .before .before .before .before .before .before .before .before .before .args in let b = c .before .before .before .before .ceiling .given .0 .0 in c .past-by .ensures a b (c .before .allowed-km .ensures a h) ∙ ap (λ (e : Float). pastOf e a b) (c .before .before .edge-km .ensures) ∙ at-height (s .w) (s .bin) a b (sym (c .before .before .before .before .before .before .before .before .before .occupied .ensures) ∙ c .before .before .before .before .before .before .before .before .if1 .taken) (sym (ap (λ (k : Cell). ceiling (k .low)) (c .before .before .before .before .before .before .before .unpack .ensures)) ∙ sym (c .before .before .before .before .before .before .ceiling-m .ensures) ∙ c .before .before .before .before .ceiling .given .1)
+returns c = λ a h. let s = c .before .before .before .before .before .before .before .before .before .args in let b = c .before .before .before .ceiling .given .0 .0 in c .past-by .ensures a h ∙ ap (λ (e : Float). pastOf e a b) (c .before .edge-km .ensures) ∙ at-height (s .w) (s .bin) a b (sym (c .before .before .before .before .before .before .before .before .occupied .ensures) ∙ c .before .before .before .before .before .before .before .if1 .taken) (sym (ap (λ (k : Cell). ceiling (k .low)) (c .before .before .before .before .before .before .unpack .ensures)) ∙ sym (c .before .before .before .before .before .ceiling-m .ensures) ∙ c .before .before .before .ceiling .given .1)
 
 returns-2 : tie.Need-returns-2
 returns-2 c = λ a h. let s = c .before .before .before .before .before .before .args in at-no-height (s .w) (s .bin) a (sym (c .before .before .before .before .before .occupied .ensures) ∙ c .before .before .before .before .if1 .taken) (sym (ap (λ (k : Cell). ceiling (k .low)) (c .before .before .before .unpack .ensures)) ∙ sym (c .before .before .ceiling-m .ensures) ∙ c .enum-told .given .1)
@@ -51,7 +48,6 @@ bin-past-spec =
     ceiling-m-requires
     enum-known-ceiling
     edge-km-requires
-    allowed-km-requires
     past-by-requires
     enum-told
     returns

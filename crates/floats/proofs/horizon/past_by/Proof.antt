@@ -2,8 +2,7 @@
 use mathlib.Core.Path.{_≡_, sym, ap, _∙_}
 use mathlib.Core.Bool.{Bool, true, false, cond}
 use lib.Ieee.{Float, binary64, sub, lt}
-use Rattle.floats.specs.Horizon.{horizon, allowance}
-use Rattle.floats.specs.Horizon.{pastOf}
+use Rattle.floats.specs.Horizon.{allowance, pastOf}
 use Rattle.floats.specs.declared.horizon.Past.the-variants.{By, No}
 use borrow.Author.Needs.{needs}
 use Rattle.floats.proofs.horizon.past_by.Statement.{statement}
@@ -20,14 +19,14 @@ allowance-km-requires c κs = search needs
 returns : tie.Need-returns
 returns c =
     let g = c .before .allowance-km in
-    let a = c .before .before .args in
-    by-test (a .edge-km) (a .antenna-m) (g .result) (a .aircraft-m) true (g .ensures) (c .if1 .taken)
+    let s = c .before .before .args in
+    λ a h. by-test (s .edge-km) a (g .result) (s .aircraft-m) true (g .ensures a h) (c .if1 .taken)
 
 returns-2 : tie.Need-returns-2
 returns-2 c =
     let g = c .before .allowance-km in
-    let a = c .before .before .args in
-    by-test (a .edge-km) (a .antenna-m) (g .result) (a .aircraft-m) false (g .ensures) (c .if1 .left)
+    let s = c .before .before .args in
+    λ a h. by-test (s .edge-km) a (g .result) (s .aircraft-m) false (g .ensures a h) (c .if1 .left)
 
 pub past-by-spec : {M : Type 1} → statement M
 past-by-spec = tie.close (tie.spec allowance-km-requires returns returns-2)
