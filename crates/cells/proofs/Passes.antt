@@ -1,7 +1,7 @@
 -- The laws of passes, sums, firsts and tables that loops are proved by: a loop over 0 .. n holds its variable equal to a pass up
 -- to i, and a turn is `pass-next`, `sum-step` or `table-fill`. Assumes nothing.
 use mathlib.Core.Path.{_≡_, refl, sym, ap, _∙_}
-use mathlib.Core.Bool.{Bool, true, false, cond, true≢false}
+use mathlib.Core.Bool.{Bool, true, false, _&&_, _||_, cond, true≢false}
 use mathlib.Core.Logic.{_⊎_, inl, inr, ⊎-elim}
 use mathlib.Core.List.{List, [], _∷_, _++_}
 use Prim.Native.Nat.{ℕ, zero, suc, _+_, _≤_, _<_}
@@ -12,7 +12,7 @@ use borrow.Author.Tests.{lt-ltb, le-ltb, ltb-true, ltb-false}
 use lib.Dec.{ltb}
 use lib.ListN.{length, getD, take, set, length-append, List·getD-append}
 use lib.Seq.{getD-at, take-suc-set, take-all}
-use Rattle.cells.specs.Passes.{pass, sumOf, first, table}
+use Rattle.cells.specs.Passes.{pass, sumOf, howMany, some, first, table}
 
 -- of two numbers, the one is less or it is not
 pub lt-or-ge : (m n : ℕ) → (m < n) ⊎ (n ≤ m)
@@ -69,6 +69,61 @@ pub sum-step : (p : ℕ → Bool) (f : ℕ → ℕ) (n r k : ℕ) → n ≡ sumO
 sum-step p f n r k e h =
     ap (λ (m : ℕ). m + r) e ∙ ap (λ (m : ℕ). sumOf p f k + m) h ∙ added (p k) (sumOf p f k) (f k)
     ∙ sym (pass-next (λ (i s : ℕ). cond (p i) (s + f i) s) 0 k)
+
+-- ---- some
+or-true : (t : Bool) → (t || true) ≡ true
+or-true true = refl
+or-true false = refl
+
+or-false : (t : Bool) → (t || false) ≡ t
+or-false true = refl
+or-false false = refl
+
+one-more : (b : Bool) (n : ℕ) → ltb 0 (cond b (n + 1) n) ≡ (ltb 0 n || b)
+one-more true n = lt-ltb 0 (n + 1) (omega arith) ∙ sym (or-true (ltb 0 n))
+one-more false n = sym (or-false (ltb 0 n))
+
+pub some-next : (p : ℕ → Bool) (n : ℕ) → some p (suc n) ≡ (some p n || p n)
+unfolding pass
+some-next p n = one-more (p n) (howMany p n)
+
+-- the same of a loop, whose turn is i + 1
+pub some-turn : (p : ℕ → Bool) (n : ℕ) → some p (n + 1) ≡ (some p n || p n)
+some-turn p n = ap (some p) (add-one n) ∙ some-next p n
+
+pub some-same : (p q : ℕ → Bool) (n : ℕ) → ((i : ℕ) → i < n → p i ≡ q i) → some p n ≡ some q n
+some-same p q n h =
+    ap (ltb 0) (pass-same (λ (i s : ℕ). cond (p i) (s + 1) s) (λ (i s : ℕ). cond (q i) (s + 1) s) 0 n (λ i l s. ap (λ (b : Bool). cond b (s + 1) s) (h i l)))
+
+pub some-none : (p : ℕ → Bool) (n : ℕ) → ((i : ℕ) → i < n → p i ≡ false) → some p n ≡ false
+some-none p n h = ap (ltb 0) (pass-all (λ (i s : ℕ). cond (p i) (s + 1) s) 0 n (λ i l s. ap (λ (b : Bool). cond b (s + 1) s) (h i l)))
+
+neither : (a b : Bool) → (a || b) ≡ false → (a ≡ false) × (b ≡ false)
+neither true b e = absurd (true≢false e)
+neither false b e = (refl, e)
+
+pub some-not : (p : ℕ → Bool) (n : ℕ) → some p n ≡ false → (i : ℕ) → i < n → p i ≡ false
+some-not p zero e i l = absurd (omega arith)
+some-not p (suc n) e i l =
+    let h = neither (some p n) (p n) (sym (some-next p n) ∙ e) in
+    ⊎-elim (λ (q : i ≡ n). ap p q ∙ h .1) (λ (lt : i < n). some-not p n (h .0) i lt) (eq-or-lt-of-le (le-of-suc-le-suc l))
+
+four : (a b c d : Bool) → ((a || b) || (c || d)) ≡ ((a || c) || (b || d))
+four true b c d = refl
+four false b true d = or-true b ∙ refl
+four false true false d = refl
+four false false false d = refl
+
+pub some-or : (p q : ℕ → Bool) (n : ℕ) → some (λ (i : ℕ). p i || q i) n ≡ (some p n || some q n)
+unfolding pass
+some-or p q zero = refl
+some-or p q (suc n) =
+    some-next (λ (i : ℕ). p i || q i) n ∙ ap (λ (b : Bool). b || (p n || q n)) (some-or p q n)
+    ∙ four (some p n) (some q n) (p n) (q n) ∙ ap (λ (b : Bool). b || (some q n || q n)) (sym (some-next p n)) ∙ ap (λ (b : Bool). some p (suc n) || b) (sym (some-next q n))
+
+pub some-and : (b : Bool) (p : ℕ → Bool) (n : ℕ) → some (λ (i : ℕ). b && p i) n ≡ (b && some p n)
+some-and true p n = refl
+some-and false p n = some-none (λ (i : ℕ). false) n (λ i l. refl)
 
 -- ---- the first
 first-step : (b : Bool) (m n : ℕ) → m ≤ n → cond b m (suc m) ≤ suc n

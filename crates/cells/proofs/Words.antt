@@ -1,10 +1,13 @@
 -- The laws of a packed cell, for any number: callers use these in place of the packing. Assumes nothing.
 use mathlib.Core.Path.{_≡_, refl, ap, _∙_}
-use Prim.Native.Nat.{ℕ, _+_, _^_, _≤_, _<_, min}
+use mathlib.Core.Bool.{false, _||_}
+use Prim.Native.Nat.{ℕ, zero, suc, _+_, _%_, _^_, _≤_, _<_, min}
 use native.Mathlib.Omega.{arith}
-use lib.Bits.{bitOr, or-lt, or-zero-l, or-zero-r}
+use borrow.Author.Tests.{lt-ltb}
+use lib.Bits.{bitOr, or-lt, or-mod, or-zero-l, or-zero-r, or-add-and, and-le-l, and-le-r}
+use lib.Dec.{ltb}
 use Rattle.cells.specs.declared.Cell.{Cell}
-use Rattle.cells.specs.Cells.{packed, countOf, lowOf, bitsOf, unpacked, emptyWord, added, addedWord, merge, mergedWord}
+use Rattle.cells.specs.Cells.{packed, countOf, lowOf, bitsOf, unpacked, emptyWord, added, addedWord, merge, mergedWord, occupiedWord}
 
 -- ---- the parts are small
 pub count-small : (w : ℕ) → countOf w ≤ 255
@@ -89,3 +92,29 @@ merged-empty w h =
     (cell-is (merge (unpacked w) (unpacked emptyWord)) (unpacked w)
     (omega (arith, empty-count, count-small w)) (omega (arith, empty-low, low-small w)) (ap (bitOr (bitsOf w)) empty-bits ∙ or-zero-r (bitsOf w)))
     ∙ packed-unpacked w h
+
+-- ---- occupied
+any : (x y z : ℕ) → (z ≡ 0 → (x ≡ 0) × (y ≡ 0)) → (x ≡ 0 → y ≡ 0 → z ≡ 0) → ltb 0 z ≡ (ltb 0 x || ltb 0 y)
+any x y zero h k = let e = h refl in rw (e .0, e .1)
+any zero zero (suc z) h k = let e : _≡_ {A = ℕ} (suc z) 0 = k refl refl in absurd (omega arith)
+any zero (suc y) (suc z) h k = rw (lt-ltb 0 (suc y) (omega arith), lt-ltb 0 (suc z) (omega arith))
+any (suc x) y (suc z) h k = rw (lt-ltb 0 (suc x) (omega arith), lt-ltb 0 (suc z) (omega arith))
+
+pub zero-free : occupiedWord 0 ≡ false
+unfolding countOf
+zero-free = refl
+
+pub merged-occupied : (a b : ℕ) → occupiedWord (mergedWord a b) ≡ (occupiedWord a || occupiedWord b)
+merged-occupied a b =
+    let e = merged-parts a b .count in
+    any (countOf a) (countOf b) (countOf (mergedWord a b)) (λ h. (omega arith, omega arith)) (λ h k. omega arith)
+
+-- bits that are set in one of two are set in both together, those of a count too
+pub both-occupied : (a b : ℕ) → occupiedWord (bitOr a b) ≡ (occupiedWord a || occupiedWord b)
+unfolding countOf
+both-occupied a b =
+    let m = or-mod a b 8 in
+    let s = or-add-and (a % 256) (b % 256) in
+    any (a % 256) (b % 256) (bitOr a b % 256)
+    (λ h. (omega (arith, and-le-r (a % 256) (b % 256)), omega (arith, and-le-l (a % 256) (b % 256))))
+    (λ h k. m ∙ ap (λ (n : ℕ). bitOr n (b % 256)) h ∙ ap (λ (n : ℕ). bitOr 0 n) k)

@@ -12,8 +12,8 @@ use lib.Seq.{getD-set-same, getD-set-other}
 use Rattle.angles.specs.Bearing.{sector}
 use Rattle.floats.specs.declared.horizon.Past.the-variants.{No}
 use Rattle.cells.specs.Cells.{packed, emptyWord, countOf, lowOf, occupiedWord}
-use Rattle.cells.specs.Passes.{pass, first, howMany, table}
-use Rattle.cells.proofs.Passes.{pass-all}
+use Rattle.cells.specs.Passes.{pass, first, howMany, some, table}
+use Rattle.cells.proofs.Passes.{pass-all, table-same}
 use Rattle.cells.proofs.Words.{Parts, packed-parts, empty-fits}
 use Rattle.view.specs.View.{kept, mergedOf, mergedAt, gridOf, farOf}
 use Rattle.view.specs.declared.EpochId.the-variants.{Id, Nothing}
@@ -23,10 +23,9 @@ use Rattle.sites.specs.declared.Site.{Site}
 use Rattle.sites.specs.declared.Claimed.the-variants.{At}
 use Rattle.past_horizon.specs.Horizon.{pastHorizon}
 use Rattle.near_field.specs.Plane.{square}
-use Rattle.near_field.specs.Marks.{some, inSector, sectorsIn, cellIn, binIn, outsideOf}
+use Rattle.near_field.specs.Marks.{inSector, sectorsIn, cellIn, binIn, outsideOf}
 use Rattle.near_field.specs.declared.Judgment.the-variants.{Unjudged, Wrong}
 use Rattle.near_field.specs.declared.Evidence.the-variants.{NothingNear}
-use Rattle.near_field.proofs.Marked.{table-same}
 use Rattle.nothing_near.specs.Nothing.{cellPlace, binPlace, heard, placesHeard, places, nothingNear}
 use Rattle.nothing_near.proofs.Cases.{p10-off, p10-few, near-not-far as places-not-far}
 use Rattle.nothing_near.specs.declared.Empty.the-variants.{Off, Heard}
@@ -167,7 +166,7 @@ module _ (n bits : ℕ) (few : suc n ≤ 255) (fit : bits < 2 ^ 16) where
   outside10 =
       few-sectors (λ (k : ℕ). some (cellIn grid10 k) 1600 || some (binIn (far10 .cells) k) 72) in-one
       (table-same (λ (k : ℕ). some (cellIn grid10 k) 1600 || some (binIn (far10 .cells) k) 72) in-one 8
-      (λ k. rw (no-cells k, bin-sector far10 (heardWord (suc n) bits) n bin-here (word (suc n) bits few fit .count) (word (suc n) bits few fit .low) bin-free k))) one-sector
+      (λ k l. rw (no-cells k, bin-sector far10 (heardWord (suc n) bits) n bin-here (word (suc n) bits few fit .count) (word (suc n) bits few fit .low) bin-free k))) one-sector
 
   past10 : (site : Site) → No ≡ pastHorizon site far10
   past10 site = none-past site far10 (bin-low far10 (heardWord (suc n) bits) n bin-here (word (suc n) bits few fit .count) (word (suc n) bits few fit .low) bin-free)
@@ -290,7 +289,7 @@ module _ (bits : ℕ) (fit : bits < 2 ^ 16) where
   outside-near =
       few-sectors (λ (k : ℕ). some (cellIn gridN k) 1600 || some (binIn (farN .cells) k) 72) in-two
       (table-same (λ (k : ℕ). some (cellIn gridN k) 1600 || some (binIn (farN .cells) k) 72) in-two 8
-      (λ k. rw (cell-sectors k, bin-sector farN one 0 far-here count-one (word 1 bits (omega arith) fit .low) far-free k))) two-sectors
+      (λ k l. rw (cell-sectors k, bin-sector farN one 0 far-here count-one (word 1 bits (omega arith) fit .low) far-free k))) two-sectors
 
 pub near-not-far : (site : Site) (bits : ℕ) → bits < 2 ^ 16 → judgeOf (At site) (Id 0) Nothing (rowNear bits) 0 15 ≡ Wrong 5 NothingNear
 unfolding judgeOf judgeRow kept

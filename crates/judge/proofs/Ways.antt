@@ -1,14 +1,15 @@
 -- A judging's answers, one law for each way through the code. Assumes nothing.
-use mathlib.Core.Path.{_≡_, sym, ap, _∙_}
-use mathlib.Core.Bool.{Bool}
+use mathlib.Core.Path.{_≡_, refl, sym, ap, _∙_}
+use mathlib.Core.Bool.{Bool, true, false, cond}
 use mathlib.Core.List.{List}
 use Prim.Native.Nat.{ℕ, _≤_, _<_}
 use borrow.Author.Tests.{lt-ltb, le-ltb}
+use lib.Dec.{ltb}
 use lib.Ieee.{Float}
 use Rattle.floats.specs.Steps.{offOf}
 use Rattle.floats.specs.declared.horizon.Past.{Past}
 use Rattle.floats.specs.declared.horizon.Past.the-variants.{By, No}
-use Rattle.view.specs.View.{kept}
+use Rattle.view.specs.View.{kept, Unheard}
 use Rattle.view.specs.declared.EpochId.{EpochId}
 use Rattle.view.specs.declared.Far.{Far}
 use Rattle.sites.specs.declared.Site.{Site}
@@ -17,6 +18,7 @@ use Rattle.sites.specs.declared.Claimed.the-variants.{At, Nowhere}
 use Rattle.past_horizon.specs.Horizon.{pastHorizon}
 use Rattle.near_field.specs.Marks.{outsideOf}
 use Rattle.near_field.specs.Near.{nearField}
+use Rattle.near_field.proofs.Judged.{nf-unheard}
 use Rattle.near_field.specs.declared.Judgment.{Judgment}
 use Rattle.near_field.specs.declared.Judgment.the-variants.{Unjudged, Wrong}
 use Rattle.near_field.specs.declared.Evidence.the-variants.{Horizon, NothingNear}
@@ -47,6 +49,14 @@ module _ (e : Empty) (grid : List ℕ) (far : Far) (out : Bool) where
   pub after-near : (n : ℕ) → e ≡ Heard → n ≡ places grid far → 12 ≤ n → nearField grid out ≡ afterHorizon e grid far out
   unfolding afterHorizon
   after-near n h p l = rw (h, le-ltb (places grid far) 12 (rw p at l))
+
+  -- where no cell of the grid is occupied the near field finds nothing, however many bins there are
+  pub after-unheard : Unheard grid → e ≡ Heard → Unjudged ≡ afterHorizon e grid far out
+  unfolding afterHorizon
+  after-unheard u h = rw h (by (ltb (places grid far) 12)) where
+    by : (b : Bool) → Unjudged ≡ cond b Unjudged (nearField grid out)
+    by true = refl
+    by false = nf-unheard grid u 1 out
 
 -- ---- the merged cells
 module _

@@ -1,9 +1,13 @@
 // The judging of one row: where its cells say that the site is.
 ghost use mathlib.Core.Path.{_≡_};
-ghost use mathlib.Core.Bool.{_||_};
+ghost use mathlib.Core.Bool.{Bool, _||_};
+ghost use mathlib.Core.List.{List};
+ghost use Prim.Native.Nat.{ℕ};
 ghost use lib.Dec.{T};
 ghost use lib.ListN.{length};
 ghost use Rattle.floats.specs.Steps.{distance};
+ghost use Rattle.view.specs.View.{Unheard};
+ghost use Rattle.view.specs.declared.Far.{Far};
 ghost use Rattle.nothing_near.specs.Nothing.{nothingNear};
 ghost use Rattle.judge.specs.Judging.{ifOutside, horizonOff, afterHorizon, judgeCells, judgeRow, judgeOf};
 use floats::horizon::Past;
@@ -73,21 +77,64 @@ fn judge_cells(site: Site, grid: &[u32; 1600], far: Far) -> Judgment
     }
 }
 
+// The nothing-near distance, if outside and there is one, where no cell of the grid is occupied.
+fn empty_far(far: Far, outside: bool) -> Empty
+    ensures { λ r. ⌜ ((grid : List ℕ) → Unheard grid → r ≡ ifOutside outside (nothingNear grid far)) ⌝ }
+{
+    if outside {
+        nothing_near::nothing_near_far(far)
+    } else {
+        Empty::Heard
+    }
+}
+
+// What is judged there where nothing is past the horizon: the near field has no cell.
+fn after_far(empty: Empty) -> Judgment
+    ensures { λ r. ⌜ ((grid : List ℕ) (far : Far) (outside : Bool) → Unheard grid → r ≡ afterHorizon empty grid far outside) ⌝ }
+{
+    match empty {
+        Empty::Off(km) => Judgment::Wrong {
+            off_km: km,
+            by: Evidence::NothingNear,
+        },
+        Empty::Heard => Judgment::Unjudged,
+    }
+}
+
+// The judging of the merged bins where no cell of the grid is occupied.
+fn judge_far(site: Site, far: Far) -> Judgment
+    ensures { λ r. ⌜ ((grid : List ℕ) → Unheard grid → r ≡ judgeCells site grid far) ⌝ }
+{
+    let outside = marks::outside_far(far);
+    let empty = empty_far(far, outside);
+    match past_horizon::past_horizon(site, far) {
+        Past::By(excess) => Judgment::Wrong {
+            off_km: horizon_off(empty, excess),
+            by: Evidence::Horizon,
+        },
+        Past::No => after_far(empty),
+    }
+}
+
 fn either(a: bool, b: bool) -> bool
     ensures { λ r. ⌜ r ≡ (a || b) ⌝ }
 {
     if a { true } else { b }
 }
 
-// The judging of a row's cells. Where no half is merged there is no place, and nothing need be looked at.
+// The judging of a row's cells. Where no half is merged there is no place, and nothing need be looked at; where no cell of the
+// grid is occupied the bins alone are judged.
 fn judge_row(site: Site, cells: &[u32], even: bool, odd: bool) -> Judgment
     requires { ⌜ length (now cells) ≡ 3344 ⌝ }
     ensures { λ r. ⌜ r ≡ judgeRow site (now (cells .entry)) even odd ⌝ }
 {
     if either(even, odd) {
-        let grid = view::grid_view(cells, even, odd);
         let far = view::far_view(cells, even, odd);
-        return judge_cells(site, &grid, far);
+        if view::grid_heard(cells, even, odd) {
+            let grid = view::grid_view(cells, even, odd);
+            return judge_cells(site, &grid, far);
+        }
+        return judge_far(site, far);
     }
     Judgment::Unjudged
 }

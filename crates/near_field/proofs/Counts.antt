@@ -11,7 +11,7 @@ use lib.Dec.{ltb}
 use lib.ListN.{getD}
 use Rattle.cells.specs.Passes.{pass, howMany, table}
 use Rattle.cells.proofs.Passes.{pass-skip, table-at}
-use Rattle.near_field.specs.Marks.{occ, some}
+use Rattle.near_field.specs.Marks.{occ}
 use Rattle.near_field.specs.Counts.{countsOf}
 
 up : (b : Bool) (n : ℕ) → n ≤ cond b (n + 1) n
@@ -65,20 +65,6 @@ count-span p q a (suc b) l h =
     ⊎-elim (λ (e : a ≡ suc b). rw e)
     (λ (lt : a < suc b). rw (h b (omega arith) (omega arith)) (both (q b) (howMany p b) (howMany q b) (howMany q a) (howMany p a) (count-span p q a b (omega arith) (λ i m n. h i m (omega arith)))))
     (eq-or-lt-of-le l)
-
-next : (b : Bool) (n : ℕ) → ltb 0 (cond b (n + 1) n) ≡ (ltb 0 n || b)
-next true n = lt-ltb 0 (n + 1) (omega arith) ∙ sym (or-true (ltb 0 n)) where
-  or-true : (t : Bool) → (t || true) ≡ true
-  or-true true = refl
-  or-true false = refl
-next false n = sym (or-false (ltb 0 n)) where
-  or-false : (t : Bool) → (t || false) ≡ t
-  or-false true = refl
-  or-false false = refl
-
-pub some-next : (p : ℕ → Bool) (n : ℕ) → some p (suc n) ≡ (some p n || p n)
-unfolding pass
-some-next p n = next (p n) (howMany p n)
 
 -- one that has p is counted
 pub some-at : (p : ℕ → Bool) (i n : ℕ) → i < n → p i ≡ true → 0 < howMany p n

@@ -1,15 +1,18 @@
 -- The near field's answers, one law for each way. Assumes nothing.
-use mathlib.Core.Path.{_≡_}
+use mathlib.Core.Path.{_≡_, refl, sym, ap}
 use mathlib.Core.Bool.{_&&_, _||_, Bool, true, false, cond}
-use mathlib.Core.List.{List}
+use mathlib.Core.List.{List, [], _∷_}
 use Prim.Native.Nat.{ℕ, zero, suc, _*_, _≤_, _<_}
 use native.Mathlib.Omega.{arith}
 use borrow.Author.Tests.{lt-ltb, le-ltb, le-leb, lt-leb, eq-eqb, ne-eqb}
 use lib.Dec.{leb, ltb, eqb}
-use Rattle.cells.specs.Passes.{pass}
-use Rattle.near_field.specs.Plane.{square, said}
-use Rattle.near_field.specs.Marks.{aroundOf, sectorsIn}
-use Rattle.near_field.specs.Near.{noHole, better, bestOf, members, meanSquare, foundOf, bestOrNone, nearFieldBy, found, cellsAround}
+use Rattle.cells.specs.Passes.{pass, some, table}
+use Rattle.cells.proofs.Passes.{pass-all, some-none, table-same}
+use Rattle.view.specs.View.{Unheard}
+use Rattle.near_field.specs.Sorted.{those}
+use Rattle.near_field.specs.Plane.{square, said, fromSite}
+use Rattle.near_field.specs.Marks.{occ, near, inSector, marksOf, aroundOf, sectorsIn}
+use Rattle.near_field.specs.Near.{cellDistances, noHole, better, bestOf, members, meanSquare, foundOf, bestOrNone, nearFieldBy, found, cellsAround}
 use Rattle.near_field.specs.declared.Judgment.the-variants.{Unjudged, Fits, Wrong}
 use Rattle.near_field.specs.declared.Evidence.the-variants.{NearField}
 
@@ -45,6 +48,23 @@ module _ (scale : ℕ) (g : List ℕ) (s : ℕ) (e : s ≡ sectorsIn (aroundOf g
   pub nf-rest : (out : Bool) → s < 5 → s ≤ 3 → out ≡ true → noHole g ≡ false → bestOrNone scale g (bestOf g 1600) ≡ nearFieldBy scale g out
   unfolding nearFieldBy
   nf-rest out h h2 o n = rw (o, under-5 h, under-4 h2, n)
+
+-- ---- no cell is occupied: no sector, and the third nearest cell is missing
+module _ (g : List ℕ) (u : Unheard g) where
+  no-sector : sectorsIn (aroundOf g 40 40 .marks) ≡ 0
+  unfolding aroundOf marksOf near sectorsIn table pass
+  no-sector =
+      ap sectorsIn
+      (table-same (λ (k : ℕ). some (λ (i : ℕ). near g 40 40 i && inSector 40 40 k i) 1600) (λ (k : ℕ). false) 8
+      (λ k l. some-none (λ (i : ℕ). near g 40 40 i && inSector 40 40 k i) 1600 (λ i m. rw (u i m))))
+
+  no-cell : noHole g ≡ true
+  unfolding noHole cellDistances those
+  no-cell = rw (pass-all (λ (i : ℕ) (xs : List ℕ). cond (occ g i) (fromSite i ∷ xs) xs) [] 1600 (λ i l xs. rw (u i l)))
+
+  pub nf-unheard : (scale : ℕ) (out : Bool) → Unjudged ≡ nearFieldBy scale g out
+  nf-unheard scale true = nf-hole scale g 0 (sym no-sector) true (omega arith) (omega arith) refl no-cell
+  nf-unheard scale false = nf-inside scale g 0 (sym no-sector) false (omega arith) (omega arith) refl
 
 pub no-best : (scale : ℕ) (g : List ℕ) (b : ℕ) → b ≡ 1600 → Unjudged ≡ bestOrNone scale g b
 unfolding bestOrNone

@@ -3,20 +3,16 @@ use Prim.Native.Nat.{ℕ, _/_}
 use mathlib.Core.Bool.{Bool, false, _&&_, _||_, cond}
 use mathlib.Core.List.{List}
 use lib.Bits.{bitOr}
-use lib.Dec.{leb, ltb, eqb}
+use lib.Dec.{leb, eqb}
 use lib.ListN.{getD}
 use Rattle.cells.specs.Cells.{bitsOf, occupiedWord}
-use Rattle.cells.specs.Passes.{pass, howMany, table}
+use Rattle.cells.specs.Passes.{pass, howMany, some, table}
 use Rattle.near_field.specs.declared.Nearby.{Nearby}
 use Rattle.near_field.specs.Plane.{eastOf, northOf, dist, within25, over3, sectorFrom}
 
 -- cell i of a grid, or bin i of 72, is occupied
 abbrev pub occ : List ℕ → ℕ → Bool
 occ g i = occupiedWord (getD g i 0)
-
--- one at least of the first n has p
-abbrev pub some : (ℕ → Bool) → ℕ → Bool
-some p n = ltb 0 (howMany p n)
 
 -- 01, 5: Around a place: cells within 25 km,
 unfoldable pub near : List ℕ → ℕ → ℕ → ℕ → Bool

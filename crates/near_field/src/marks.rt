@@ -1,12 +1,14 @@
 // Around a place, and the sector marks.
 ghost use mathlib.Core.Path.{_≡_};
-ghost use mathlib.Core.Bool.{cond, true, _&&_};
-ghost use Prim.Native.Nat.{_/_, _%_, _≤_, _<_};
+ghost use mathlib.Core.Bool.{Bool, cond, true, _&&_, _||_};
+ghost use mathlib.Core.List.{List};
+ghost use Prim.Native.Nat.{ℕ, _%_, _≤_, _<_};
 ghost use lib.ListN.{set};
 ghost use Rattle.cells.specs.Cells.{occupiedWord};
-ghost use Rattle.cells.specs.Passes.{table};
+ghost use Rattle.cells.specs.Passes.{some, table};
+ghost use Rattle.view.specs.View.{Unheard};
 ghost use Rattle.near_field.specs.Plane.{eastOf, northOf, fromSite, over3, sectorFrom};
-ghost use Rattle.near_field.specs.Marks.{some, cellIn, aroundOf, sectorsIn, outsideOf};
+ghost use Rattle.near_field.specs.Marks.{cellIn, binIn, aroundOf, sectorsIn, outsideOf};
 use super::Nearby;
 use super::near;
 use super::plane;
@@ -80,17 +82,46 @@ fn cell_marks(grid: &[u32; 1600]) -> [bool; 8]
     m
 }
 
-// The marks with that of bin j, if it is occupied.
-fn bin_mark(marks: [bool; 8], w: u32, j: usize) -> [bool; 8]
-    requires { ⌜ j < 72 ⌝ }
-    ensures { λ r. ⌜ r ≡ cond (occupiedWord w) (set marks (j / 9) true) marks ⌝ }
+// Whether a bin of sector k is occupied: the bits of its nine together tell.
+fn bin_heard(bins: &[u32; 72], k: usize) -> bool
+    requires { ⌜ k < 8 ⌝ }
+    ensures { λ r. ⌜ r ≡ some (binIn (now (bins .entry)) k) 72 ⌝ }
 {
-    if cells::occupied(w) {
+    let mut all: u32 = 0;
+    let mut j = 9 * k;
+    let end = j + 9;
+    while j < end {
+        all = all | bins[j];
+        j += 1;
+    }
+    cells::occupied(all)
+}
+
+// The marks with that of sector k, if it is heard.
+fn with_mark(marks: [bool; 8], heard: bool, k: usize) -> [bool; 8]
+    requires { ⌜ k < 8 ⌝ }
+    ensures { λ r. ⌜ r ≡ cond heard (set marks k true) marks ⌝ }
+{
+    if heard {
         let mut m = marks;
-        m[j / 9] = true;
+        m[k] = true;
         return m;
     }
     marks
+}
+
+// The marks with those of the bins.
+fn bin_marks(marks: [bool; 8], bins: &[u32; 72]) -> [bool; 8]
+    ensures { λ r. ⌜ ((f : ℕ → Bool) → marks ≡ table f 8 → r ≡ table (λ k. f k || some (binIn (now (bins .entry)) k) 72) 8) ⌝ }
+{
+    let mut m = marks;
+    let mut k = 0;
+    while k < 8 {
+        let next = with_mark(m, bin_heard(bins, k), k);
+        m = next;
+        k += 1;
+    }
+    m
 }
 
 // Whether all that is heard lies in at most 4 sectors.
@@ -98,12 +129,13 @@ pub fn outside(grid: &[u32; 1600], far: Far) -> bool
     ensures { λ r. ⌜ r ≡ outsideOf (now (grid .entry)) (far .cells) ⌝ }
 {
     let bins = far.cells;
-    let mut m = cell_marks(grid);
-    let mut j = 0;
-    while j < 72 {
-        let next = bin_mark(m, bins[j], j);
-        m = next;
-        j += 1;
-    }
-    sectors(m) <= 4
+    sectors(bin_marks(cell_marks(grid), &bins)) <= 4
+}
+
+// The same where no cell of the grid is occupied.
+pub fn outside_far(far: Far) -> bool
+    ensures { λ r. ⌜ ((grid : List ℕ) → Unheard grid → r ≡ outsideOf grid (far .cells)) ⌝ }
+{
+    let bins = far.cells;
+    sectors(bin_marks([false; 8], &bins)) <= 4
 }

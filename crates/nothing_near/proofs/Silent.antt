@@ -2,16 +2,18 @@
 use mathlib.Core.Path.{_≡_, refl, sym, ap, _∙_}
 use mathlib.Core.Bool.{Bool, true, false, _&&_, cond}
 use mathlib.Core.Logic.{⊎-elim}
-use mathlib.Core.List.{List}
+use mathlib.Core.List.{List, []}
 use Prim.Native.Nat.{ℕ, zero, suc, _+_, _≤_, _<_}
 use native.Mathlib.Nat.{eq-or-lt-of-le}
 use native.Mathlib.Omega.{arith}
-use borrow.Author.Tests.{lt-leb, le-ltb}
+use borrow.Author.Tests.{lt-leb, le-ltb, ltb-false}
 use lib.Dec.{leb}
 use lib.ListN.{getD}
 use Rattle.cells.specs.Cells.{countOf, occupiedWord}
 use Rattle.cells.specs.Passes.{sumOf, howMany}
 use Rattle.cells.proofs.Passes.{pass-all, pass-skip}
+use Rattle.cells.proofs.Words.{zero-free}
+use Rattle.view.specs.View.{Unheard}
 use Rattle.near_field.specs.Plane.{northOf, apart, square, fromSite}
 use Rattle.near_field.proofs.Squares.{square-le}
 use Rattle.nothing_near.specs.Nothing.{km}
@@ -58,7 +60,12 @@ module _ (grid : List ℕ) where
   pub rows-after : howMany isNear 1600 ≡ howMany isNear 1280
   rows-after = pass-skip (λ (i s : ℕ). cond (isNear i) (s + 1) s) 0 1280 1600 (omega arith) (λ i p q s. unchanged i s (far-row i (omega arith)))
 
-  -- ---- no positions
+  -- ---- no cell is occupied
+  pub silent-positions : Unheard grid → positionsAmong grid 1600 ≡ 0
+  unfolding positionsAmong
+  silent-positions u =
+      pass-all (λ (i s : ℕ). cond true (s + countOf (getD grid i 0)) s) 0 1600 (λ i l s. omega (arith, ltb-false 0 (countOf (getD grid i 0)) (u i l)))
+
   silent : (n : ℕ) → positionsAmong grid n ≡ 0 → (i : ℕ) → i < n → countOf (getD grid i 0) ≡ 0
   unfolding positionsAmong
   silent n e i l =
@@ -78,3 +85,7 @@ module _ (grid : List ℕ) where
   unfolding cellSteps gather
   silent-steps e =
       sym (pass-all (gather cellStep grid) noSteps 1600 (λ i l at. sym (gather-none at (cellStep i) (countOf (getD grid i 0)) (silent 1600 e i l))))
+
+-- the empty list is such a grid
+pub no-cells : noSteps ≡ cellSteps []
+no-cells = silent-steps [] (silent-positions [] (λ i l. zero-free))

@@ -26,9 +26,12 @@ module _ (grid bins at : List ℕ) (is : at ≡ allSteps grid bins) where
   unfolding allSteps
   steps-fit k = rw is (bins-fit grid bins 72 k)
 
-  pub found-steps : (sum k : ℕ) → k ≤ 160 → ((j : ℕ) → j < k → reachedAt at sum j ≡ false) → (k < 160 → reachedAt at sum k ≡ true) → k ≡ typicalSteps grid bins sum
+  pub all-found : (sum k : ℕ) → k ≡ first (reachedAt at sum) 160 → k ≡ typicalSteps grid bins sum
   unfolding typicalSteps
-  found-steps sum k l before here = sym (ap (λ (t : List ℕ). first (reachedAt t sum) 160) (sym is) ∙ first-unique (reachedAt at sum) 160 k l before here)
+  all-found sum k e = e ∙ ap (λ (t : List ℕ). first (reachedAt t sum) 160) is
+
+pub found-steps : (at : List ℕ) (sum k : ℕ) → k ≤ 160 → ((j : ℕ) → j < k → reachedAt at sum j ≡ false) → (k < 160 → reachedAt at sum k ≡ true) → k ≡ first (reachedAt at sum) 160
+found-steps at sum k l before here = sym (first-unique (reachedAt at sum) 160 k l before here)
 
 pub reached-yes : (at : List ℕ) (sum passed k : ℕ) → passed ≡ below at k → sum ≤ 2 * (passed + getD at k 0) → reachedAt at sum k ≡ true
 unfolding reachedAt

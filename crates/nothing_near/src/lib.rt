@@ -1,12 +1,15 @@
 // Nothing heard near the site: how far the typical position is. What is written here asks for no order of the places: it
 // counts those under 60 km, and gathers all positions by the 5 km step that their distance is said in.
 ghost use mathlib.Core.Path.{_≡_};
-ghost use Prim.Native.Nat.{_+_, _*_, _≤_, _<_, min, max};
+ghost use mathlib.Core.List.{List};
+ghost use Prim.Native.Nat.{ℕ, _+_, _*_, _≤_, _<_, min, max};
 ghost use lib.Dec.{ltb};
 ghost use lib.ListN.{length, getD, set};
 ghost use Rattle.cells.specs.Cells.{countOf};
+ghost use Rattle.cells.specs.Passes.{first};
+ghost use Rattle.view.specs.View.{Unheard};
 ghost use Rattle.nothing_near.specs.Nothing.{km, placesHeard, places, third, positionsIn, nothingNear};
-ghost use Rattle.nothing_near.specs.Counted.{positionsAmong, occupiedAmong, nearCells, cellStep, binStep, cellSteps, allSteps, typicalSteps};
+ghost use Rattle.nothing_near.specs.Counted.{positionsAmong, occupiedAmong, nearCells, cellStep, binStep, cellSteps, allSteps, reachedAt};
 use near_field::near;
 use near_field::plane;
 use view::Far;
@@ -69,14 +72,11 @@ fn near_cells(grid: &[u32; 1600]) -> u32
     n
 }
 
-// Whether the third nearest place, or the last of fewer, is under 60 km away; `in_grid` are the positions of the grid.
-fn third_is_near(grid: &[u32; 1600], far: Far, in_grid: u32) -> bool
-    requires { ⌜ («in_grid» ≡ positionsAmong (now grid) 1600) × (0 < positionsIn (placesHeard (now grid) far)) ⌝ }
+// Whether the third nearest place, or the last of fewer, is under 60 km away.
+fn third_is_near(grid: &[u32; 1600], far: Far) -> bool
+    requires { ⌜ 0 < positionsIn (placesHeard (now grid) far) ⌝ }
     ensures { λ r. ⌜ r ≡ ltb (third (placesHeard (now (grid .entry)) far) .nearest) (km 60) ⌝ }
 {
-    if in_grid == 0 {
-        return false;
-    }
     let near = near_cells(grid);
     if near == 0 {
         return false;
@@ -118,15 +118,11 @@ fn gather_cell(at: &mut [u32; 161], w: u32, i: usize)
     at[k] = at[k] + n;
 }
 
-// The positions of the cells, by their steps; `in_grid` is how many they are.
-fn cell_steps(grid: &[u32; 1600], in_grid: u32) -> [u32; 161]
-    requires { ⌜ «in_grid» ≡ positionsAmong (now grid) 1600 ⌝ }
+// The positions of the cells, by their steps.
+fn cell_steps(grid: &[u32; 1600]) -> [u32; 161]
     ensures { λ r. ⌜ r ≡ cellSteps (now (grid .entry)) ⌝ }
 {
     let mut at = [0u32; 161];
-    if in_grid == 0 {
-        return at;
-    }
     let mut i = 0;
     while i < 1600 {
         gather_cell(&mut at, grid[i], i);
@@ -135,12 +131,12 @@ fn cell_steps(grid: &[u32; 1600], in_grid: u32) -> [u32; 161]
     at
 }
 
-// The positions of all places, by their steps.
-fn all_steps(grid: &[u32; 1600], bins: [u32; 72], in_grid: u32) -> [u32; 161]
-    requires { ⌜ «in_grid» ≡ positionsAmong (now grid) 1600 ⌝ }
-    ensures { λ r. ⌜ r ≡ allSteps (now (grid .entry)) bins ⌝ }
+// The positions of the bins with those of the cells, by their steps.
+fn with_bins(cells: [u32; 161], bins: [u32; 72]) -> [u32; 161]
+    requires { ⌜ ((grid : List ℕ) × (cells ≡ cellSteps grid)) ⌝ }
+    ensures { λ r. ⌜ ((grid : List ℕ) → cells ≡ cellSteps grid → r ≡ allSteps grid bins) ⌝ }
 {
-    let mut at = cell_steps(grid, in_grid);
+    let mut at = cells;
     let mut j = 0;
     while j < 72 {
         let k = bin_step(j);
@@ -151,11 +147,10 @@ fn all_steps(grid: &[u32; 1600], bins: [u32; 72], in_grid: u32) -> [u32; 161]
 }
 
 // The steps of the typical distance: the least at which twice the positions so far reach the total.
-fn typical_steps(grid: &[u32; 1600], bins: [u32; 72], in_grid: u32, total: u32) -> u32
-    requires { ⌜ «in_grid» ≡ positionsAmong (now grid) 1600 ⌝ }
-    ensures { λ r. ⌜ (r ≡ typicalSteps (now (grid .entry)) bins total) × (r ≤ 160) ⌝ }
+fn typical_steps(at: [u32; 161], total: u32) -> u32
+    requires { ⌜ ((grid : List ℕ) × (bins : List ℕ) × (at ≡ allSteps grid bins)) ⌝ }
+    ensures { λ r. ⌜ (r ≡ first (reachedAt at total) 160) × (r ≤ 160) ⌝ }
 {
-    let at = all_steps(grid, bins, in_grid);
     let mut passed: u32 = 0;
     let mut k = 0;
     while k < 160 {
@@ -181,14 +176,26 @@ pub fn nothing_near(grid: &[u32; 1600], far: Far) -> Empty
     ensures { λ r. ⌜ r ≡ nothingNear (now (grid .entry)) far ⌝ }
 {
     let bins = far.cells;
-    let in_grid = positions_among(grid);
-    let total = in_grid + positions_among(&bins);
+    let total = positions_among(grid) + positions_among(&bins);
     if total < 60 {
         return Empty::Heard;
     }
-    if third_is_near(grid, far, in_grid) {
+    if third_is_near(grid, far) {
         return Empty::Heard;
     }
-    let k = typical_steps(grid, bins, in_grid, total);
+    let k = typical_steps(with_bins(cell_steps(grid), bins), total);
     Empty::Off(steps_km(k))
+}
+
+// The same where no cell of the grid is occupied: no bin is near.
+pub fn nothing_near_far(far: Far) -> Empty
+    ensures { λ r. ⌜ ((grid : List ℕ) → Unheard grid → r ≡ nothingNear grid far) ⌝ }
+{
+    let bins = far.cells;
+    let total = positions_among(&bins);
+    if 60 <= total {
+        let k = typical_steps(with_bins([0u32; 161], bins), total);
+        return Empty::Off(steps_km(k));
+    }
+    Empty::Heard
 }

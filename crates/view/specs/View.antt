@@ -1,11 +1,12 @@
 -- The merged cells of one row (01, "A judging"). Definitions only.
-use Prim.Native.Nat.{ℕ, _+_, _/_}
+use Prim.Native.Nat.{ℕ, _+_, _/_, _<_}
+use mathlib.Core.Path.{_≡_}
 use mathlib.Core.Bool.{Bool, true, false, _||_, cond}
 use mathlib.Core.List.{List}
 use lib.Dec.{eqb}
 use lib.ListN.{getD}
-use Rattle.cells.specs.Cells.{countOf, emptyWord, mergedWord}
-use Rattle.cells.specs.Passes.{sumOf, table}
+use Rattle.cells.specs.Cells.{countOf, emptyWord, mergedWord, occupiedWord}
+use Rattle.cells.specs.Passes.{sumOf, some, table}
 use Rattle.view.specs.declared.EpochId.{EpochId}
 use Rattle.view.specs.declared.EpochId.the-variants.{Id, Nothing}
 use Rattle.view.specs.declared.Far.{Far}
@@ -25,6 +26,17 @@ mergedAt cells even odd i = mergedOf even odd (getD cells i 0) (getD cells (1672
 
 unfoldable pub gridOf : List ℕ → Bool → Bool → List ℕ
 gridOf cells even odd = table (mergedAt cells even odd) 1600
+
+-- Occupied means a count above 0. Whether a cell of a grid is; and that none is
+unfoldable pub heardIn : List ℕ → Bool
+heardIn grid = some (λ (i : ℕ). occupiedWord (getD grid i 0)) 1600
+
+abbrev pub Unheard : List ℕ → Type 0
+Unheard grid = (i : ℕ) → i < 1600 → occupiedWord (getD grid i 0) ≡ false
+
+-- whether a word from `start` on is
+abbrev pub heardAt : List ℕ → ℕ → ℕ → Bool
+heardAt words start i = occupiedWord (getD words (start + i) 0)
 
 unfoldable pub binsOf : List ℕ → Bool → Bool → List ℕ
 binsOf cells even odd = table (λ (j : ℕ). mergedAt cells even odd (1600 + j)) 72

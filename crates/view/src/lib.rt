@@ -1,11 +1,12 @@
 // What was heard over the halves still kept, merged.
 ghost use mathlib.Core.Path.{_≡_};
-ghost use mathlib.Core.Bool.{_||_, cond};
+ghost use mathlib.Core.Bool.{_||_, _&&_, cond};
 ghost use Rattle.cells.specs.Cells.{emptyWord};
-ghost use Prim.Native.Nat.{_+_, _<_};
+ghost use Rattle.cells.specs.Passes.{some};
+ghost use Prim.Native.Nat.{_+_, _≤_, _<_};
 ghost use lib.Dec.{eqb};
 ghost use lib.ListN.{length};
-ghost use Rattle.view.specs.View.{kept, mergedOf, mergedAt, gridOf, binsOf, positionsOf, farOf};
+ghost use Rattle.view.specs.View.{kept, mergedOf, mergedAt, gridOf, heardAt, heardIn, binsOf, positionsOf, farOf};
 
 pub enum EpochId {
     Id(u64),
@@ -48,6 +49,39 @@ fn merged_at(cells: &[u32], even: bool, odd: bool, i: usize) -> u32
     ensures { λ r. ⌜ r ≡ mergedAt (now (cells .entry)) even odd i ⌝ }
 {
     cells::merged_word(heard(even, cells[i]), heard(odd, cells[1672 + i]))
+}
+
+// Whether one of the 1,600 grid cells of a half, which starts at `from`, is occupied: the bits of all of them together tell.
+fn half_heard(cells: &[u32], from: usize) -> bool
+    requires { ⌜ (length (now cells) ≡ 3344) × (from ≤ 1672) ⌝ }
+    ensures { λ r. ⌜ r ≡ some (heardAt (now (cells .entry)) from) 1600 ⌝ }
+{
+    let mut all: u32 = 0;
+    let mut i = 0;
+    while i < 1600 {
+        all = all | cells[from + i];
+        i += 1;
+    }
+    cells::occupied(all)
+}
+
+// The same of a half that is merged, or not.
+fn kept_heard(keep: bool, cells: &[u32], from: usize) -> bool
+    requires { ⌜ (length (now cells) ≡ 3344) × (from ≤ 1672) ⌝ }
+    ensures { λ r. ⌜ r ≡ (keep && some (heardAt (now (cells .entry)) from) 1600) ⌝ }
+{
+    if keep { half_heard(cells, from) } else { false }
+}
+
+// Whether a cell of the merged grid is occupied.
+pub fn grid_heard(cells: &[u32], even: bool, odd: bool) -> bool
+    requires { ⌜ length (now cells) ≡ 3344 ⌝ }
+    ensures { λ r. ⌜ r ≡ heardIn (gridOf (now (cells .entry)) even odd) ⌝ }
+{
+    if kept_heard(even, cells, 0) {
+        return true;
+    }
+    kept_heard(odd, cells, 1672)
 }
 
 // The merged grid.

@@ -1,4 +1,4 @@
--- The loop gathers as `cellSteps` does, a word at a turn (`gather-next`); a grid with no positions leaves all at 0 (`silent-steps`).
+-- The loop gathers as `cellSteps` does, a word at a turn (`gather-next`).
 use mathlib.Core.List.{List}
 use mathlib.Core.Path.{_≡_, sym, ap, _∙_}
 use Prim.Native.Nat.{ℕ, _-_, _≤_}
@@ -8,24 +8,19 @@ use lib.ListN.{getD}
 use Rattle.cells.proofs.Passes.{pass-none}
 use Rattle.cells.specs.Passes.{pass}
 use Rattle.nothing_near.specs.Counted.{cellStep, noSteps, gather, cellSteps}
-use Rattle.nothing_near.proofs.Silent.{silent-steps}
 use Rattle.nothing_near.proofs.Gathered.{cells-fit, gather-next}
 use Rattle.nothing_near.proofs.cell_steps.Statement.{statement}
 use Rattle.nothing_near.proofs.cell_steps.Tie as tie
 
 abbrev Inv-loop : tie.InvT-loop
-Inv-loop grid in-grid at₀ i₀ at i = (i ≤ 1600) × (at ≡ pass (gather cellStep grid) noSteps i)
+Inv-loop grid at₀ i₀ at i = (i ≤ 1600) × (at ≡ pass (gather cellStep grid) noSteps i)
 
 abbrev μ-loop : tie.MeasureT-loop
-μ-loop grid in-grid at₀ i₀ at i = 1600 - i
-
-returns : tie.Need-returns Inv-loop μ-loop
-unfolding noSteps
-returns c = silent-steps (c .before .args .grid .now) (sym (c .before .pre) ∙ c .if1 .taken)
+μ-loop grid at₀ i₀ at i = 1600 - i
 
 loop-holds : tie.Need-loop-holds Inv-loop μ-loop
 unfolding noSteps
-loop-holds c = (search needs, sym (pass-none (gather cellStep (c .before .args .grid .now)) noSteps))
+loop-holds c = (search needs, sym (pass-none (gather cellStep (c .args .grid .now)) noSteps))
 
 mul-gather-cell : tie.Need-mul-gather-cell Inv-loop μ-loop
 mul-gather-cell c = search needs
@@ -34,7 +29,7 @@ element-copy-out-gather-cell : tie.Need-element-copy-out-gather-cell Inv-loop μ
 element-copy-out-gather-cell c = search needs
 
 gather-cell-requires : tie.Need-gather-cell-requires Inv-loop μ-loop
-gather-cell-requires c κs = let l = c .before .before .before .loop in (search needs, omega (arith, ap (λ (t : List ℕ). getD t (cellStep (l .i)) 0) (l .inv .1), cells-fit (c .before .before .before .before .before .args .grid .now) (l .i) (cellStep (l .i))))
+gather-cell-requires c κs = let l = c .before .before .before .loop in (search needs, omega (arith, ap (λ (t : List ℕ). getD t (cellStep (l .i)) 0) (l .inv .1), cells-fit (c .before .before .before .before .args .grid .now) (l .i) (cellStep (l .i))))
 
 add-i : tie.Need-add-i Inv-loop μ-loop
 add-i c = search needs
@@ -43,11 +38,11 @@ loop-less : tie.Need-loop-less Inv-loop μ-loop
 loop-less c = search needs
 
 loop-again : tie.Need-loop-again Inv-loop μ-loop
-loop-again c = let l = c .before .before .before .before .loop in (search needs, c .gather-cell .ensures ∙ gather-next cellStep (c .before .before .before .before .before .before .args .grid .now) noSteps (l .at) (l .i) (l .inv .1))
+loop-again c = let l = c .before .before .before .before .loop in (search needs, c .gather-cell .ensures ∙ gather-next cellStep (c .before .before .before .before .before .args .grid .now) noSteps (l .at) (l .i) (l .inv .1))
 
-returns-2 : tie.Need-returns-2 Inv-loop μ-loop
+returns : tie.Need-returns Inv-loop μ-loop
 unfolding cellSteps
-returns-2 c = let l = c .before .loop in let e : l .i ≡ 1600 = omega arith in rw e at (l .inv .1)
+returns c = let l = c .before .loop in let e : l .i ≡ 1600 = omega arith in rw e at (l .inv .1)
 
 pub cell-steps-spec : {M : Type 1} → statement M
 cell-steps-spec =
@@ -55,7 +50,6 @@ cell-steps-spec =
     (tie.spec
     Inv-loop
     μ-loop
-    returns
     loop-holds
     mul-gather-cell
     element-copy-out-gather-cell
@@ -63,4 +57,4 @@ cell-steps-spec =
     add-i
     loop-less
     loop-again
-    returns-2)
+    returns)

@@ -4,9 +4,10 @@ use Prim.Native.Nat.{_+_}
 use native.Mathlib.Omega.{arith}
 use borrow.Author.Needs.{needs}
 use lib.ListN.{length}
-use Rattle.nothing_near.specs.Counted.{positionsAmong}
+use Rattle.nothing_near.specs.Counted.{positionsAmong, allSteps}
 use Rattle.nothing_near.specs.Nothing.{placesHeard, positionsIn}
 use Rattle.nothing_near.proofs.Counted.{positions-counted}
+use Rattle.nothing_near.proofs.Typical.{all-found}
 use Rattle.nothing_near.proofs.Answers.{few-positions, some-near, is-off}
 use Rattle.nothing_near.proofs.nothing_near.Statement.{statement}
 use Rattle.nothing_near.proofs.nothing_near.Tie as tie
@@ -47,24 +48,35 @@ returns c =
 third-is-near-requires : tie.Need-third-is-near-requires
 third-is-near-requires c κs =
     let sum = sum-is (c .before) in
-    (grid-is (c .before .before .before), omega (arith, c .if1 .left))
+    omega (arith, c .if1 .left)
 
 returns-2 : tie.Need-returns-2
 returns-2 c =
     let s = c .before .before .before .before .before .before .before .before .args in
     some-near (s .grid .now) (s .far) _ (sum-is (c .before .before .before)) (c .before .before .if1 .left) _ (c .before .third-is-near .ensures) (c .if2 .taken)
 
+cell-steps-requires : tie.Need-cell-steps-requires
+cell-steps-requires c κs = search needs
+
+with-bins-requires : tie.Need-with-bins-requires
+with-bins-requires c κs = (_, c .cell-steps .ensures)
+
+-- the positions of all places, by their steps
+all-is : (c : tie.After-with-bins) → let s = c .before .before .before .before .before .before .before .before .before .before .args in c .with-bins .result ≡ allSteps (s .grid .now) (s .far .cells)
+all-is c = c .with-bins .ensures _ (c .before .cell-steps .ensures)
+
 typical-steps-requires : tie.Need-typical-steps-requires
-typical-steps-requires c κs = grid-is (c .before .before .before .before .before)
+typical-steps-requires c κs = (_, _, all-is c)
 
 steps-km-requires : tie.Need-steps-km-requires
 steps-km-requires c κs = search needs
 
 returns-3 : tie.Need-returns-3
 returns-3 c =
-    let s = c .before .before .before .before .before .before .before .before .before .before .args in
-    is-off (s .grid .now) (s .far) _ (sum-is (c .before .before .before .before .before)) (c .before .before .before .before .if1 .left) _
-    (c .before .before .before .third-is-near .ensures) (c .before .before .if2 .left) _ _ (c .before .typical-steps .ensures .0) (c .steps-km .ensures)
+    let s = c .before .before .before .before .before .before .before .before .before .before .before .before .args in
+    let k = all-found (s .grid .now) (s .far .cells) _ (all-is (c .before .before)) _ _ (c .before .typical-steps .ensures .0) in
+    is-off (s .grid .now) (s .far) _ (sum-is (c .before .before .before .before .before .before .before)) (c .before .before .before .before .before .before .if1 .left) _
+    (c .before .before .before .before .before .third-is-near .ensures) (c .before .before .before .before .if2 .left) _ _ k (c .steps-km .ensures)
 
 pub nothing-near-spec : {M : Type 1} → statement M
 nothing-near-spec =
@@ -77,6 +89,8 @@ nothing-near-spec =
     returns
     third-is-near-requires
     returns-2
+    cell-steps-requires
+    with-bins-requires
     typical-steps-requires
     steps-km-requires
     returns-3)

@@ -80,8 +80,7 @@ loop-again : tie.Need-loop-again Inv-loop μ-loop
 loop-again c =
     let l = c .before .before .before .before .before .before .before .loop in
     let far = c .before .before .before .before .before .before .before .before .before .before .before .args .far in
-    let z = l .inv .0 in
-    (
+    let z = l .inv .0 in (
       record {
         seen = omega (arith, c .before .before .before .before .before .before .loop-test .taken);
         room = search needs;
@@ -102,8 +101,7 @@ loop-less-2 c = search needs
 loop-again-2 : tie.Need-loop-again-2 Inv-loop μ-loop
 loop-again-2 c =
     let l = c .before .before .before .before .loop in
-    let z = l .inv .0 in
-    (
+    let z = l .inv .0 in (
       record { seen = omega (arith, c .before .before .before .loop-test .taken); room = z .room; few = omega (arith, z .few); most = z .most; small = omega (arith, z .small) },
       λ a h. not-past _ a (l .xs) (l .at) (l .positions) (l .aircraft) (l .i) (l .inv .1 a h) (sym (c .before .before .bin-past .ensures a h) ∙ c .enum-told .given .1),
     )

@@ -1,7 +1,7 @@
 -- After i cells the marks are the table of the sectors that hold one of the first i (`cells-step`).
 use Rattle.near_field.proofs.Marked.{cells-step, cells-none}
-use Rattle.near_field.specs.Marks.{some, cellIn}
-use Rattle.cells.specs.Passes.{table}
+use Rattle.near_field.specs.Marks.{cellIn}
+use Rattle.cells.specs.Passes.{some, table}
 use native.Mathlib.Omega.{arith}
 use mathlib.Core.Path.{_≡_, refl}
 use Prim.Native.Nat.{ℕ, _-_, _/_, _≤_}

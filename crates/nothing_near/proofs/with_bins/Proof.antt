@@ -3,7 +3,6 @@ use mathlib.Core.List.{List}
 use mathlib.Core.Path.{_≡_, sym, ap, _∙_}
 use Prim.Native.Nat.{ℕ, _+_, _-_, _≤_}
 use native.Mathlib.Omega.{arith}
-use borrow.Author.Needs.{needs}
 use lib.ListN.{getD, set}
 use Rattle.cells.proofs.Words.{count-small}
 use Rattle.cells.proofs.Passes.{pass-none}
@@ -11,20 +10,18 @@ use Rattle.cells.specs.Passes.{pass}
 use Rattle.cells.specs.Cells.{countOf}
 use Rattle.nothing_near.specs.Counted.{binStep, gather, cellSteps, allSteps}
 use Rattle.nothing_near.proofs.Gathered.{bins-below-fit, gather-next}
-use Rattle.nothing_near.proofs.all_steps.Statement.{statement}
-use Rattle.nothing_near.proofs.all_steps.Tie as tie
+use borrow.Author.Needs.{needs}
+use Rattle.nothing_near.proofs.with_bins.Statement.{statement}
+use Rattle.nothing_near.proofs.with_bins.Tie as tie
 
 abbrev Inv-loop : tie.InvT-loop
-Inv-loop grid in-grid bins at₀ j₀ at j = (j ≤ 72) × (at ≡ pass (gather binStep bins) (cellSteps grid) j)
+Inv-loop bins at₀ j₀ at j = (j ≤ 72) × (at ≡ pass (gather binStep bins) at₀ j)
 
 abbrev μ-loop : tie.MeasureT-loop
-μ-loop grid in-grid bins at₀ j₀ at j = 72 - j
-
-cell-steps-requires : tie.Need-cell-steps-requires Inv-loop μ-loop
-cell-steps-requires c κs = c .pre
+μ-loop bins at₀ j₀ at j = 72 - j
 
 loop-holds : tie.Need-loop-holds Inv-loop μ-loop
-loop-holds c = (search needs, c .cell-steps .ensures ∙ sym (pass-none (gather binStep (c .before .args .t2)) (cellSteps (c .before .args .grid .now))))
+loop-holds c = (search needs, sym (pass-none (gather binStep (c .args .t2)) (c .args .cells)))
 
 bin-step-requires : tie.Need-bin-step-requires Inv-loop μ-loop
 bin-step-requires c κs = search needs
@@ -45,7 +42,17 @@ count-of-requires : tie.Need-count-of-requires Inv-loop μ-loop
 count-of-requires c κs = search needs
 
 add-at : tie.Need-add-at Inv-loop μ-loop
-add-at c = let l = c .before .before .before .loop in omega (arith, ap (λ (t : List ℕ). getD t (c .before .bin-step .result) 0) (l .inv .1), bins-below-fit (c .before .before .before .before .before .args .grid .now) (c .before .before .before .before .before .args .t2) (l .j) (c .before .bin-step .result), count-small (getD (c .before .before .before .before .before .args .t2) (l .j) 0))
+add-at c =
+    let l = c .before .before .before .loop in
+    let s = c .before .before .before .before .args in
+    let p = c .before .before .before .before .pre in
+    let k = c .before .bin-step .result in
+    omega (
+      arith,
+      ap (λ (t : List ℕ). getD t k 0) (l .inv .1 ∙ ap (λ (t : List ℕ). pass (gather binStep (s .t2)) t (l .j)) (p .1)),
+      bins-below-fit (p .0) (s .t2) (l .j) k,
+      count-small (getD (s .t2) (l .j) 0),
+    )
 
 mul-at-2 : tie.Need-mul-at-2 Inv-loop μ-loop
 mul-at-2 c = search needs
@@ -60,19 +67,29 @@ loop-less : tie.Need-loop-less Inv-loop μ-loop
 loop-less c = search needs
 
 loop-again : tie.Need-loop-again Inv-loop μ-loop
-loop-again c = let l = c .before .before .before .loop in let s = c .before .before .before .before .before .args in (search needs, ap (λ (n : ℕ). set (l .at) (c .before .bin-step .result) (getD (l .at) (c .before .bin-step .result) 0 + n)) (c .count-of .ensures) ∙ ap (λ (k : ℕ). set (l .at) k (getD (l .at) k 0 + countOf (getD (s .t2) (l .j) 0))) (c .before .bin-step .ensures .0) ∙ gather-next binStep (s .t2) (cellSteps (s .grid .now)) (l .at) (l .j) (l .inv .1))
+loop-again c =
+    let l = c .before .before .before .loop in
+    let s = c .before .before .before .before .args in (
+      search needs,
+      ap (λ (n : ℕ). set (l .at) (c .before .bin-step .result) (getD (l .at) (c .before .bin-step .result) 0 + n)) (c .count-of .ensures)
+          ∙ ap (λ (k : ℕ). set (l .at) k (getD (l .at) k 0 + countOf (getD (s .t2) (l .j) 0))) (c .before .bin-step .ensures .0)
+          ∙ gather-next binStep (s .t2) (s .cells) (l .at) (l .j) (l .inv .1),
+    )
 
 returns : tie.Need-returns Inv-loop μ-loop
 unfolding allSteps
-returns c = let l = c .before .loop in let e : l .j ≡ 72 = omega arith in rw e at (l .inv .1)
+returns c =
+    let l = c .before .loop in
+    let s = c .before .before .args in
+    let e : l .j ≡ 72 = omega arith in
+    λ g h. rw e at (l .inv .1) ∙ ap (λ (t : List ℕ). pass (gather binStep (s .t2)) t 72) h
 
-pub all-steps-spec : {M : Type 1} → statement M
-all-steps-spec =
+pub with-bins-spec : {M : Type 1} → statement M
+with-bins-spec =
     tie.close
     (tie.spec
     Inv-loop
     μ-loop
-    cell-steps-requires
     loop-holds
     bin-step-requires
     mul-at
