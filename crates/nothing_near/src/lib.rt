@@ -139,9 +139,13 @@ fn with_bins(cells: [u32; 161], bins: [u32; 72]) -> [u32; 161]
     let mut at = cells;
     let mut j = 0;
     while j < 72 {
-        let k = bin_step(j);
-        at[k] = at[k] + cells::count_of(bins[j]);
+        let bin = j;
+        let w = bins[bin];
         j += 1;
+        if cells::occupied(w) {
+            let k = bin_step(bin);
+            at[k] = at[k] + cells::count_of(w);
+        }
     }
     at
 }

@@ -1,15 +1,16 @@
--- The loop gathers the bins on top of the cells, a word at a turn (`gather-next`).
+-- The loop gathers the bins on top of the cells, a word at a turn (`gather-next`); one that is not occupied changes nothing (`gather-none`).
 use mathlib.Core.List.{List}
 use mathlib.Core.Path.{_≡_, sym, ap, _∙_}
 use Prim.Native.Nat.{ℕ, _+_, _-_, _≤_}
 use native.Mathlib.Omega.{arith}
+use borrow.Author.Tests.{ltb-false}
 use lib.ListN.{getD, set}
 use Rattle.cells.proofs.Words.{count-small}
 use Rattle.cells.proofs.Passes.{pass-none}
 use Rattle.cells.specs.Passes.{pass}
 use Rattle.cells.specs.Cells.{countOf}
 use Rattle.nothing_near.specs.Counted.{binStep, gather, cellSteps, allSteps}
-use Rattle.nothing_near.proofs.Gathered.{bins-below-fit, gather-next}
+use Rattle.nothing_near.proofs.Gathered.{bins-below-fit, gather-next, gather-none}
 use borrow.Author.Needs.{needs}
 use Rattle.nothing_near.proofs.with_bins.Statement.{statement}
 use Rattle.nothing_near.proofs.with_bins.Tie as tie
@@ -23,6 +24,18 @@ abbrev μ-loop : tie.MeasureT-loop
 loop-holds : tie.Need-loop-holds Inv-loop μ-loop
 loop-holds c = (search needs, sym (pass-none (gather binStep (c .args .t2)) (c .args .cells)))
 
+mul-w : tie.Need-mul-w Inv-loop μ-loop
+mul-w c = search needs
+
+array-read-w : tie.Need-array-read-w Inv-loop μ-loop
+array-read-w c = search needs
+
+add-j : tie.Need-add-j Inv-loop μ-loop
+add-j c = search needs
+
+occupied-requires : tie.Need-occupied-requires Inv-loop μ-loop
+occupied-requires c κs = search needs
+
 bin-step-requires : tie.Need-bin-step-requires Inv-loop μ-loop
 bin-step-requires c κs = search needs
 
@@ -32,20 +45,14 @@ mul-at c = search needs
 array-read-at : tie.Need-array-read-at Inv-loop μ-loop
 array-read-at c = search needs
 
-mul-count-of : tie.Need-mul-count-of Inv-loop μ-loop
-mul-count-of c = search needs
-
-array-read-count-of : tie.Need-array-read-count-of Inv-loop μ-loop
-array-read-count-of c = search needs
-
 count-of-requires : tie.Need-count-of-requires Inv-loop μ-loop
 count-of-requires c κs = search needs
 
 add-at : tie.Need-add-at Inv-loop μ-loop
 add-at c =
-    let l = c .before .before .before .loop in
-    let s = c .before .before .before .before .args in
-    let p = c .before .before .before .before .pre in
+    let l = c .before .before .before .before .before .loop in
+    let s = c .before .before .before .before .before .before .args in
+    let p = c .before .before .before .before .before .before .pre in
     let k = c .before .bin-step .result in
     omega (
       arith,
@@ -60,21 +67,29 @@ mul-at-2 c = search needs
 array-write-at : tie.Need-array-write-at Inv-loop μ-loop
 array-write-at c = search needs
 
-add-j : tie.Need-add-j Inv-loop μ-loop
-add-j c = search needs
-
 loop-less : tie.Need-loop-less Inv-loop μ-loop
 loop-less c = search needs
 
 loop-again : tie.Need-loop-again Inv-loop μ-loop
 loop-again c =
-    let l = c .before .before .before .loop in
-    let s = c .before .before .before .before .args in (
+    let l = c .before .before .before .before .before .loop in
+    let s = c .before .before .before .before .before .before .args in (
       search needs,
       ap (λ (n : ℕ). set (l .at) (c .before .bin-step .result) (getD (l .at) (c .before .bin-step .result) 0 + n)) (c .count-of .ensures)
           ∙ ap (λ (k : ℕ). set (l .at) k (getD (l .at) k 0 + countOf (getD (s .t2) (l .j) 0))) (c .before .bin-step .ensures .0)
           ∙ gather-next binStep (s .t2) (s .cells) (l .at) (l .j) (l .inv .1),
     )
+
+loop-less-2 : tie.Need-loop-less-2 Inv-loop μ-loop
+loop-less-2 c = search needs
+
+loop-again-2 : tie.Need-loop-again-2 Inv-loop μ-loop
+loop-again-2 c =
+    let l = c .before .before .before .loop in
+    let s = c .before .before .before .before .args in
+    let w = getD (s .t2) (l .j) 0 in
+    let none : countOf w ≡ 0 = omega (arith, ltb-false 0 (countOf w) (sym (c .before .occupied .ensures) ∙ c .if1 .left)) in
+    (search needs, gather-none (l .at) (binStep (l .j)) (countOf w) none ∙ gather-next binStep (s .t2) (s .cells) (l .at) (l .j) (l .inv .1))
 
 returns : tie.Need-returns Inv-loop μ-loop
 unfolding allSteps
@@ -91,16 +106,19 @@ with-bins-spec =
     Inv-loop
     μ-loop
     loop-holds
+    mul-w
+    array-read-w
+    add-j
+    occupied-requires
     bin-step-requires
     mul-at
     array-read-at
-    mul-count-of
-    array-read-count-of
     count-of-requires
     add-at
     mul-at-2
     array-write-at
-    add-j
     loop-less
     loop-again
+    loop-less-2
+    loop-again-2
     returns)
