@@ -12,7 +12,7 @@ use lib.Dec.{T, ltb, eqb}
 use lib.Ieee.{Float, nan, inf, fin, binary64, ofBits, fits, div, lt}
 use lib.ListN.{length, getD, drop}
 use lib.Seq.{drop-cons}
-use Rattle.floats.specs.Root.{unitsOf, plain}
+use Rattle.root.specs.Root.{unitsOf, plain}
 use Rattle.floats.specs.Rank.{insert, sorted, Good, AllGood, AtMost, Ascending, count}
 use Rattle.floats.proofs.Units.{lt-units}
 use Rattle.floats.proofs.Nearest.{by-units}

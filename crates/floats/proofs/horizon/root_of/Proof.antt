@@ -1,7 +1,7 @@
 -- `horizon::root_of` meets its contract: the calls are the definitions. Assumes nothing.
 use mathlib.Core.Path.{ap, _∙_}
 use borrow.Author.Needs.{needs}
-use Rattle.floats.specs.Root.{root}
+use Rattle.root.specs.Root.{root}
 use Rattle.floats.proofs.horizon.root_of.Statement.{statement}
 use Rattle.floats.proofs.horizon.root_of.Tie as tie
 
