@@ -14,8 +14,8 @@ use lib.ListN.{length, getD, drop}
 use lib.Seq.{drop-cons}
 use Rattle.root.specs.Root.{unitsOf, plain}
 use Rattle.floats.specs.Rank.{insert, sorted, Good, AllGood, AtMost, Ascending, count}
-use Rattle.floats.proofs.Units.{lt-units}
-use Rattle.floats.proofs.Nearest.{by-units}
+use Rattle.root.proofs.Units.{lt-units}
+use Rattle.root.proofs.Nearest.{by-units}
 use Rattle.floats.proofs.Order.{no-less, weaker, sorted-good, sorted-ascending, sorted-count}
 
 -- ---- lists
