@@ -102,7 +102,7 @@ pub fn read_bits(s: &[u8]) -> Number
 }
 
 // The float of a bit pattern; every NaN's pattern is the one NaN.
-fn float_of(bits: u64) -> f64
+pub fn float_of(bits: u64) -> f64
     ensures { λ r. ⌜ r ≡ Ieee.ofBits binary64 bits ⌝ }
 {
     if bits % 9223372036854775808 > 9218868437227405312 {

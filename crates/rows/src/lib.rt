@@ -94,20 +94,20 @@ pub fn sizes_fit(n: usize, m: usize) -> bool
 
 // ---- one row, by value
 
-fn unmade() -> Row
+pub fn unmade() -> Row
     ensures { λ r. ⌜ r ≡ blank ⌝ }
 {
     Row::UNMADE
 }
 
-fn with_next(mut row: Row, n: u32) -> Row
+pub fn with_next(mut row: Row, n: u32) -> Row
     ensures { λ r. ⌜ r ≡ withNext row n ⌝ }
 {
     row.next = n;
     row
 }
 
-fn with_prev(mut row: Row, n: u32) -> Row
+pub fn with_prev(mut row: Row, n: u32) -> Row
     ensures { λ r. ⌜ r ≡ withPrev row n ⌝ }
 {
     row.prev = n;
@@ -481,7 +481,7 @@ pub fn same_key(a: [u8; 32], b: [u8; 32]) -> bool
     true
 }
 
-fn both(a: bool, b: bool) -> bool
+pub fn both(a: bool, b: bool) -> bool
     ensures { λ r. ⌜ r ≡ (a && b) ⌝ }
 {
     if a { b } else { false }

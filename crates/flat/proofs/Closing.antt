@@ -1,0 +1,176 @@
+-- What a part's stores come to: its words, in a run. Each function's store is the last run, after those of the calls before it.
+use mathlib.Core.Path.{_≡_, refl, sym, ap, _∙_, subst}
+use Prim.Native.Nat.{ℕ, _+_, _*_, _≤_, _<_}
+use native.Mathlib.Omega.{arith}
+use mathlib.Core.Bool.{Bool, cond}
+use mathlib.Core.List.{List, [], _∷_, _++_}
+use lib.Dec.{T}
+use lib.ListN.{length, set, length-append}
+use lib.Seq.{sets}
+use lib.IntN.{ℤ}
+use lib.Ieee.{binary64, toBits, fits}
+use mir.Syntax.{w32}
+use mir.Val.{ofZ, SFits}
+use Rattle.sites.specs.declared.Altitude.{Altitude}
+use Rattle.sites.specs.declared.Altitude.the-variants.{Metres, Unknown}
+use Rattle.sites.specs.declared.Site.{Site}
+use Rattle.sites.specs.declared.Claimed.{Claimed}
+use Rattle.sites.specs.declared.Claimed.the-variants.{At, Nowhere}
+use Rattle.view.specs.declared.EpochId.{EpochId}
+use Rattle.view.specs.declared.EpochId.the-variants as Ids
+use Rattle.receiver.specs.declared.Heard.{Heard}
+use Rattle.receiver.specs.declared.WrongBy.{WrongBy}
+use Rattle.receiver.specs.declared.WrongBy.the-variants as By
+use Rattle.receiver.specs.declared.Verdict.{Verdict}
+use Rattle.receiver.specs.declared.Judged.{Judged}
+use Rattle.receiver.specs.declared.Judged.the-variants.{With, Never}
+use Rattle.rows.specs.declared.Row.{Row}
+use Rattle.flat.specs.Words.{keyWords, altitudeWords, siteWords, idWords, lastWord, byWords, verdictWords, heardWords, closedOf}
+use Rattle.flat.specs.Ranges.{AltitudeIn, SiteIn, IdIn, ByIn, RunIn, VerdictIn}
+use Rattle.flat.proofs.Runs.{runs3, runs4, over-all}
+use Rattle.flat.proofs.Keys.{key-words}
+
+-- HOW MANY WORDS
+pub altitude-words : (a : Altitude) → length (altitudeWords a) ≡ 2
+unfolding altitudeWords
+altitude-words (Metres m) = refl
+altitude-words Unknown = refl
+
+pub site-words : (c : Claimed) → length (siteWords c) ≡ 5
+unfolding siteWords
+site-words (At s) = omega (arith, altitude-words (s .«alt_m»))
+site-words Nowhere = refl
+
+pub id-words : (i : EpochId) → length (idWords i) ≡ 2
+unfolding idWords
+id-words (Ids.Id n) = refl
+id-words Ids.Nothing = refl
+
+pub by-words : (b : WrongBy) → length (byWords b) ≡ 2
+unfolding byWords
+by-words (By.Km d) = refl
+by-words By.Nothing = refl
+
+pub verdict-words : (j : Judged) → length (verdictWords j) ≡ 7
+unfolding verdictWords
+verdict-words (With v) = omega (arith, length-append (byWords (v .«wrong_by»)) (cond (v .moved) 1 0 ∷ []), by-words (v .«wrong_by»))
+verdict-words Never = refl
+
+pub heard-words : (h : Heard) → length (heardWords h) ≡ 10
+unfolding heardWords
+heard-words h =
+    let e = idWords (h .even) in let o = idWords (h .odd) in
+    length-append (siteWords (h .site)) (h .generation ∷ (e ++ o)) ∙ omega (arith, site-words (h .site), length-append e o, id-words (h .even), id-words (h .odd))
+
+pub row-words : (r : Row) → length (closedOf r) ≡ 23
+unfolding closedOf
+row-words r =
+    let k = keyWords (r .key) in let h = heardWords (r .part .heard) in let v = verdictWords (r .part .verdict) in let z = r .prev ∷ r .next ∷ [] in
+    length-append k (h ++ (v ++ z)) ∙ omega (arith, key-words (r .key), length-append h (v ++ z), heard-words (r .part .heard), length-append v z, verdict-words (r .part .verdict))
+
+-- STORES
+module _ (l y : List ℕ) (i : ℕ) where
+  pub altitude-puts : (a : Altitude) (m : ℤ) (w : ℕ) → a ≡ Metres m → w ≡ ofZ w32 m → y ≡ sets l i (1 ∷ w ∷ []) → y ≡ sets l i (altitudeWords a)
+  unfolding altitudeWords
+  altitude-puts a m w e f g = rw e (rw f at g)
+
+  pub altitude-puts-none : (a : Altitude) → a ≡ Unknown → y ≡ sets l i (0 ∷ 0 ∷ []) → y ≡ sets l i (altitudeWords a)
+  unfolding altitudeWords
+  altitude-puts-none a e g = rw e g
+
+  pub id-puts : (a : EpochId) (n w : ℕ) → a ≡ Ids.Id n → w ≡ n → y ≡ sets l i (1 ∷ w ∷ []) → y ≡ sets l i (idWords a)
+  unfolding idWords
+  id-puts a n w e f g = rw e (rw f at g)
+
+  pub id-puts-none : (a : EpochId) → a ≡ Ids.Nothing → y ≡ sets l i (0 ∷ 0 ∷ []) → y ≡ sets l i (idWords a)
+  unfolding idWords
+  id-puts-none a e g = rw e g
+
+  pub by-puts : (a : WrongBy) (n w : ℕ) → a ≡ By.Km n → w ≡ n → y ≡ sets l i (1 ∷ w ∷ []) → y ≡ sets l i (byWords a)
+  unfolding byWords
+  by-puts a n w e f g = rw e (rw f at g)
+
+  pub by-puts-none : (a : WrongBy) → a ≡ By.Nothing → y ≡ sets l i (0 ∷ 0 ∷ []) → y ≡ sets l i (byWords a)
+  unfolding byWords
+  by-puts-none a e g = rw e g
+
+  pub verdict-puts : (a : Judged) (v : Verdict) → a ≡ With v → y ≡ sets l i (verdictWords (With v)) → y ≡ sets l i (verdictWords a)
+  verdict-puts a v e g = g ∙ ap (λ (j : Judged). sets l i (verdictWords j)) (sym e)
+
+-- the ranges, of the case that was found
+pub altitude-in : (a : Altitude) (m : ℤ) → a ≡ Metres m → SFits w32 m → AltitudeIn a
+altitude-in a m e h = rw e h
+
+pub altitude-in-none : (a : Altitude) → a ≡ Unknown → AltitudeIn a
+altitude-in-none a e = rw e tt
+
+pub id-in : (a : EpochId) (n : ℕ) → a ≡ Ids.Id n → IdIn (Ids.Id n) → IdIn a
+id-in a n e h = rw e h
+
+pub id-in-none : (a : EpochId) → a ≡ Ids.Nothing → IdIn a
+id-in-none a e = rw e tt
+
+pub by-in : (a : WrongBy) (n : ℕ) → a ≡ By.Km n → ByIn (By.Km n) → ByIn a
+by-in a n e h = rw e h
+
+pub by-in-none : (a : WrongBy) → a ≡ By.Nothing → ByIn a
+by-in-none a e = rw e tt
+
+pub verdict-in : (a : Judged) (v : Verdict) → a ≡ With v → RunIn v → VerdictIn a
+verdict-in a v e h = rw e h
+
+pub verdict-in-none : (a : Judged) → a ≡ Never → VerdictIn a
+verdict-in-none a e = rw e tt
+
+pub site-in : (c : Claimed) (s : Site) → c ≡ At s → T (fits binary64 (s .lat)) → T (fits binary64 (s .lon)) → AltitudeIn (s .«alt_m») → SiteIn c
+site-in c s e a b h = rw e (a, (b, h))
+
+pub site-in-none : (c : Claimed) → c ≡ Nowhere → SiteIn c
+site-in-none c e = rw e tt
+
+pub site-puts : (l x y z : List ℕ) (i p q : ℕ) (c : Claimed) (s : Site) → c ≡ At s → p ≡ toBits binary64 (s .lat) → q ≡ toBits binary64 (s .lon)
+    → x ≡ sets l i (1 ∷ []) → y ≡ sets x (i + 1) (p ∷ q ∷ []) → z ≡ sets y (i + 3) (altitudeWords (s .«alt_m»)) → z ≡ sets l i (siteWords c)
+unfolding siteWords
+site-puts l x y z i p q c s e ep eq ex ey ez = runs3 l (1 ∷ []) (p ∷ q ∷ []) (altitudeWords (s .«alt_m»)) x y z i (i + 1) (i + 3) refl (omega arith) ex ey ez ∙ ap (sets l i) all
+  where
+    all : 1 ∷ p ∷ q ∷ altitudeWords (s .«alt_m») ≡ siteWords c
+    all = simp (e, ep, eq)
+
+pub site-puts-none : (l x y z : List ℕ) (i : ℕ) (c : Claimed) → c ≡ Nowhere → x ≡ sets l i (0 ∷ []) → y ≡ sets x (i + 1) (0 ∷ 0 ∷ []) → z ≡ sets y (i + 3) (0 ∷ 0 ∷ []) → z ≡ sets l i (siteWords c)
+unfolding siteWords
+site-puts-none l x y z i c e ex ey ez = runs3 l (0 ∷ []) (0 ∷ 0 ∷ []) (0 ∷ 0 ∷ []) x y z i (i + 1) (i + 3) refl (omega arith) ex ey ez ∙ ap (sets l i) all
+  where
+    all : 0 ∷ 0 ∷ 0 ∷ 0 ∷ 0 ∷ [] ≡ siteWords c
+    all = simp e
+
+pub run-puts : (l x y z : List ℕ) (i a b c m : ℕ) (v : Verdict) → a ≡ lastWord (v .last) → b ≡ v .«wrong_run» → c ≡ v .«other_run» → m ≡ cond (v .moved) 1 0
+    → x ≡ sets l i (1 ∷ a ∷ b ∷ c ∷ []) → y ≡ sets x (i + 4) (byWords (v .«wrong_by»)) → z ≡ sets y (i + 6) (m ∷ []) → z ≡ sets l i (verdictWords (With v))
+unfolding verdictWords
+run-puts l x y z i a b c m v ea eb ec em ex ey ez =
+    runs3 l (1 ∷ a ∷ b ∷ c ∷ []) (byWords (v .«wrong_by»)) (m ∷ []) x y z i (i + 4) (i + 6) refl (omega (arith, by-words (v .«wrong_by»))) ex ey ez ∙ ap (sets l i) all
+  where
+    all : 1 ∷ a ∷ b ∷ c ∷ (byWords (v .«wrong_by») ++ (m ∷ [])) ≡ verdictWords (With v)
+    all = simp (ea, eb, ec, em)
+
+pub never-puts : (l x y z : List ℕ) (i : ℕ) (j : Judged) → j ≡ Never → x ≡ sets l i (0 ∷ 0 ∷ 0 ∷ 0 ∷ []) → y ≡ sets x (i + 4) (0 ∷ 0 ∷ []) → z ≡ sets y (i + 6) (0 ∷ []) → z ≡ sets l i (verdictWords j)
+unfolding verdictWords
+never-puts l x y z i j e ex ey ez = runs3 l (0 ∷ 0 ∷ 0 ∷ 0 ∷ []) (0 ∷ 0 ∷ []) (0 ∷ []) x y z i (i + 4) (i + 6) refl (omega arith) ex ey ez ∙ ap (sets l i) all
+  where
+    all : 0 ∷ 0 ∷ 0 ∷ 0 ∷ 0 ∷ 0 ∷ 0 ∷ [] ≡ verdictWords j
+    all = simp e
+
+pub heard-puts : (l w x y z : List ℕ) (g : ℕ) (h : Heard) → g ≡ h .generation → w ≡ sets l 4 (siteWords (h .site)) → x ≡ sets w 9 (g ∷ []) → y ≡ sets x 10 (idWords (h .even)) → z ≡ sets y 12 (idWords (h .odd)) → z ≡ sets l 4 (heardWords h)
+unfolding heardWords
+heard-puts l w x y z g h eg ew ex ey ez =
+    runs4 l (siteWords (h .site)) (g ∷ []) (idWords (h .even)) (idWords (h .odd)) w x y z 4 9 10 12 (omega (arith, site-words (h .site))) refl (omega (arith, id-words (h .even))) ew ex ey ez
+    ∙ ap (λ (n : ℕ). sets l 4 (siteWords (h .site) ++ (n ∷ (idWords (h .even) ++ idWords (h .odd))))) eg
+
+pub closes : (l w x y z : List ℕ) (p n : ℕ) (r : Row) → length l ≡ 23 → p ≡ r .prev → n ≡ r .next → w ≡ sets l 0 (keyWords (r .key)) → x ≡ sets w 4 (heardWords (r .part .heard)) → y ≡ sets x 14 (verdictWords (r .part .verdict)) → z ≡ sets y 21 (p ∷ n ∷ [])
+    → z ≡ closedOf r
+unfolding closedOf
+closes l w x y z p n r e ep en ew ex ey ez =
+    runs4 l (keyWords (r .key)) (heardWords (r .part .heard)) (verdictWords (r .part .verdict)) (r .prev ∷ r .next ∷ []) w x y z 0 4 14 21 (omega (arith, key-words (r .key))) (omega (arith, heard-words (r .part .heard))) (omega (arith, verdict-words (r .part .verdict))) ew ex ey (ez ∙ ap (sets y 21) ends)
+    ∙ over-all l (closedOf r) (row-words r ∙ sym e)
+  where
+    ends : p ∷ n ∷ [] ≡ r .prev ∷ r .next ∷ []
+    ends = simp (ep, en)

@@ -1,0 +1,193 @@
+-- What the words from the i-th on open as, by the tests that the code makes of them.
+use mathlib.Core.Path.{_≡_, refl, sym, ap, _∙_}
+use mathlib.Core.Logic.{_≢_}
+use Prim.Native.Nat.{ℕ, _+_, _%_, _≤_, _<_}
+use native.Mathlib.Omega.{arith}
+use mathlib.Core.Bool.{Bool, true, false, cond, not, _&&_}
+use mathlib.Core.List.{List}
+use borrow.Author.Tests.{eq-eqb, ne-eqb}
+use lib.Dec.{eqb, leb}
+use lib.ListN.{getD, drop}
+use lib.IntN.{ℤ}
+use lib.Ieee.{Float, binary64, ofBits}
+use mir.Syntax.{w32}
+use mir.Val.{toZ}
+use Rattle.sites.specs.declared.Altitude.{Altitude}
+use Rattle.sites.specs.declared.Altitude.the-variants.{Metres, Unknown}
+use Rattle.sites.specs.declared.Claimed.{Claimed}
+use Rattle.sites.specs.declared.Claimed.the-variants.{At, Nowhere}
+use Rattle.view.specs.declared.EpochId.{EpochId}
+use Rattle.view.specs.declared.EpochId.the-variants as Ids
+use Rattle.receiver.specs.declared.Heard.{Heard}
+use Rattle.receiver.specs.declared.Last.{Last}
+use Rattle.receiver.specs.declared.Last.the-variants.{Unjudged, Fits, Wrong}
+use Rattle.receiver.specs.declared.WrongBy.{WrongBy}
+use Rattle.receiver.specs.declared.WrongBy.the-variants as By
+use Rattle.receiver.specs.declared.Verdict.{Verdict}
+use Rattle.receiver.specs.declared.Judged.{Judged}
+use Rattle.receiver.specs.declared.Judged.the-variants.{With, Never}
+use Rattle.rows.specs.declared.Row.{Row}
+use Rattle.flat.specs.Words.{most32, most64, low32, keyOf, maybeFits, altitudeOf, siteOf, siteFits, idOf, lastOf, byOf, runOf, verdictOf, runFits, verdictFits, rowFits, heardOf, rowOf, junk, openedOf}
+use Rattle.flat.proofs.Runs.{here, there, further}
+
+-- NUMBERS BY NAME
+pub most32-is : 4294967295 ≡ most32
+unfolding most32
+most32-is = refl
+
+pub most64-is : 18446744073709551615 ≡ most64
+unfolding most64
+most64-is = refl
+
+pub below32 : (n : ℕ) → n < 4294967296 → n ≤ most32
+unfolding most32
+below32 n h = omega arith
+
+pub below64 : (n : ℕ) → n < 18446744073709551616 → n ≤ most64
+unfolding most64
+below64 n h = omega arith
+
+module _ (ws : List ℕ) (i : ℕ) where
+  -- the tag: none, or some
+  tag0 : getD ws i 0 ≡ 0 → eqb (getD (drop i ws) 0 0) 0 ≡ true
+  tag0 h = ap (λ (t : ℕ). eqb t 0) (here ws i ∙ h)
+
+  tag : getD ws i 0 ≢ 0 → eqb (getD (drop i ws) 0 0) 0 ≡ false
+  tag h = ap (λ (t : ℕ). eqb t 0) (here ws i) ∙ ne-eqb (getD ws i 0) 0 h
+
+  tag1 : getD ws i 0 ≡ 1 → eqb (getD (drop i ws) 0 0) 0 ≡ false
+  tag1 h = ap (λ (t : ℕ). eqb t 0) (here ws i ∙ h)
+
+  is1 : getD ws i 0 ≡ 1 → eqb (getD (drop i ws) 0 0) 1 ≡ true
+  is1 h = ap (λ (t : ℕ). eqb t 1) (here ws i ∙ h)
+
+  not1 : getD ws i 0 ≢ 1 → eqb (getD (drop i ws) 0 0) 1 ≡ false
+  not1 h = ap (λ (t : ℕ). eqb t 1) (here ws i) ∙ ne-eqb (getD ws i 0) 1 h
+
+  -- A NUMBER OR NONE
+  pub maybe-none : (m : ℕ) → getD ws i 0 ≡ 0 → true ≡ maybeFits m (drop i ws)
+  unfolding maybeFits
+  maybe-none m h = simp (tag0 h)
+
+  pub maybe-some : (m : ℕ) → getD ws i 0 ≡ 1 → leb (getD ws (i + 1) 0) m ≡ maybeFits m (drop i ws)
+  unfolding maybeFits
+  maybe-some m h = simp (tag1 h, is1 h, there ws i 1)
+
+  pub maybe-other : (m : ℕ) → getD ws i 0 ≢ 0 → getD ws i 0 ≢ 1 → false ≡ maybeFits m (drop i ws)
+  unfolding maybeFits
+  maybe-other m h k = simp (tag h, not1 k)
+
+  -- ALTITUDE AND SITE
+  pub altitude-none : getD ws i 0 ≡ 0 → Unknown ≡ altitudeOf (drop i ws)
+  unfolding altitudeOf
+  altitude-none h = simp (tag0 h)
+
+  pub altitude-some : (z : ℤ) → getD ws i 0 ≢ 0 → z ≡ toZ w32 (low32 (getD ws (i + 1) 0)) → Metres z ≡ altitudeOf (drop i ws)
+  unfolding altitudeOf
+  altitude-some z h e = simp (tag h, there ws i 1, e)
+
+  pub site-fits-none : getD ws i 0 ≡ 0 → true ≡ siteFits (drop i ws)
+  unfolding siteFits
+  site-fits-none h = simp (tag0 h)
+
+  pub site-fits-some : (m : ℕ) (r : Bool) → getD ws i 0 ≡ 1 → m ≡ most32 → r ≡ maybeFits m (drop (i + 3) ws) → r ≡ siteFits (drop i ws)
+  unfolding siteFits
+  site-fits-some m r h e f = f ∙ ap (λ (n : ℕ). maybeFits n (drop (i + 3) ws)) e ∙ simp (tag1 h, is1 h, further ws i 3)
+
+  pub site-fits-other : getD ws i 0 ≢ 0 → getD ws i 0 ≢ 1 → false ≡ siteFits (drop i ws)
+  unfolding siteFits
+  site-fits-other h k = simp (tag h, not1 k)
+
+  pub site-none : getD ws i 0 ≡ 0 → Nowhere ≡ siteOf (drop i ws)
+  unfolding siteOf
+  site-none h = simp (tag0 h)
+
+  pub site-some : (lat lon : Float) (a : Altitude) → getD ws i 0 ≢ 0 → lat ≡ ofBits binary64 (getD ws (i + 1) 0) → lon ≡ ofBits binary64 (getD ws (i + 2) 0) → a ≡ altitudeOf (drop (i + 3) ws) → At (record { lat = lat; lon = lon; «alt_m» = a }) ≡ siteOf (drop i ws)
+  unfolding siteOf
+  site-some lat lon a h e f g = simp (tag h, there ws i 1, there ws i 2, further ws i 3, e, f, g)
+
+  -- EPOCH ID
+  pub id-none : getD ws i 0 ≡ 0 → Ids.Nothing ≡ idOf (drop i ws)
+  unfolding idOf
+  id-none h = simp (tag0 h)
+
+  pub id-some : getD ws i 0 ≢ 0 → Ids.Id (getD ws (i + 1) 0) ≡ idOf (drop i ws)
+  unfolding idOf
+  id-some h = simp (tag h, there ws i 1)
+
+  -- VERDICT
+  pub by-none : getD ws i 0 ≡ 0 → By.Nothing ≡ byOf (drop i ws)
+  unfolding byOf
+  by-none h = simp (tag0 h)
+
+  pub by-some : (d : ℕ) → getD ws i 0 ≢ 0 → d ≡ low32 (getD ws (i + 1) 0) → By.Km d ≡ byOf (drop i ws)
+  unfolding byOf
+  by-some d h e = simp (tag h, there ws i 1, e)
+
+  pub run-fits-is : (a b c d x y r : Bool) (m : ℕ) → a ≡ eqb (getD ws i 0) 1
+      → b ≡ (leb (getD ws (i + 1) 0) 2 && (leb (getD ws (i + 2) 0) 255 && leb (getD ws (i + 3) 0) 255))
+      → m ≡ most32 → c ≡ maybeFits m (drop (i + 4) ws) → d ≡ leb (getD ws (i + 6) 0) 1
+      → x ≡ (c && d) → y ≡ (b && x) → r ≡ (a && y) → r ≡ runFits (drop i ws)
+  unfolding runFits
+  run-fits-is a b c d x y r m ea eb em ec ed ex ey er = simp (here ws i, there ws i 1, there ws i 2, there ws i 3, there ws i 6, further ws i 4, er, ey, ex, ed, ec, em, eb, ea)
+
+  pub verdict-fits-none : getD ws i 0 ≡ 0 → true ≡ verdictFits (drop i ws)
+  unfolding verdictFits
+  verdict-fits-none h = simp (tag0 h)
+
+  pub verdict-fits-some : (r : Bool) → getD ws i 0 ≢ 0 → r ≡ runFits (drop i ws) → r ≡ verdictFits (drop i ws)
+  unfolding verdictFits
+  verdict-fits-some r h e = simp (tag h, e)
+
+  pub run-is : (l : Last) (x y : ℕ) (b : WrongBy) (s t : Bool) → l ≡ lastOf (getD ws (i + 1) 0) → x ≡ getD ws (i + 2) 0 % 256 → y ≡ getD ws (i + 3) 0 % 256
+      → b ≡ byOf (drop (i + 4) ws) → s ≡ eqb (getD ws (i + 6) 0) 0 → t ≡ not s
+      → record { last = l; «wrong_run» = x; «other_run» = y; «wrong_by» = b; moved = t } ≡ runOf (drop i ws)
+  unfolding runOf
+  run-is l x y b s t el ex ey eb es et = simp (there ws i 1, there ws i 2, there ws i 3, there ws i 6, further ws i 4, el, ex, ey, eb, et, es)
+
+  pub verdict-none : getD ws i 0 ≡ 0 → Never ≡ verdictOf (drop i ws)
+  unfolding verdictOf
+  verdict-none h = simp (tag0 h)
+
+  pub verdict-some : (v : Verdict) → getD ws i 0 ≢ 0 → v ≡ runOf (drop i ws) → With v ≡ verdictOf (drop i ws)
+  unfolding verdictOf
+  verdict-some v h e = simp (tag h, e)
+
+pub last-first : (w : ℕ) → w ≡ 0 → Unjudged ≡ lastOf w
+last-first w h = rw h
+
+pub last-second : (w : ℕ) → w ≢ 0 → w ≡ 1 → Fits ≡ lastOf w
+last-second w h k = rw k
+
+pub last-third : (w : ℕ) → w ≢ 0 → w ≢ 1 → Wrong ≡ lastOf w
+last-third w h k = simp (ne-eqb w 0 h, ne-eqb w 1 k)
+
+-- A ROW
+pub all-three : (a b c x r : Bool) → x ≡ (b && c) → r ≡ (a && x) → r ≡ (a && (b && c))
+all-three a b c x r e f = cc
+
+module _ (ws : List ℕ) where
+  pub links-fit-is : (m : ℕ) (a b c x r : Bool) → m ≡ most32 → a ≡ leb (getD ws 9 0) m → b ≡ leb (getD ws 21 0) m → c ≡ leb (getD ws 22 0) m → x ≡ (b && c) → r ≡ (a && x) → r ≡ (leb (getD ws 9 0) most32 && (leb (getD ws 21 0) most32 && leb (getD ws 22 0) most32))
+  links-fit-is m a b c x r em ea eb ec ex er = simp (er, ex, ec, eb, ea, em)
+
+  pub heard-is : (s : Claimed) (g : ℕ) (e o : EpochId) → s ≡ siteOf (drop 4 ws) → g ≡ low32 (getD ws 9 0) → e ≡ idOf (drop 10 ws) → o ≡ idOf (drop 12 ws) → record { site = s; generation = g; even = e; odd = o } ≡ heardOf ws
+  heard-is s g e o es eg ee eo = simp (es, eg, ee, eo)
+
+  pub row-fits-is : (l s e o v x y z r : Bool) (m n : ℕ) → l ≡ (leb (getD ws 9 0) most32 && (leb (getD ws 21 0) most32 && leb (getD ws 22 0) most32)) → s ≡ siteFits (drop 4 ws)
+      → m ≡ most64 → e ≡ maybeFits m (drop 10 ws) → n ≡ most64 → o ≡ maybeFits n (drop 12 ws) → v ≡ verdictFits (drop 14 ws)
+      → x ≡ (o && v) → y ≡ (e && x) → z ≡ (s && y) → r ≡ (l && z) → r ≡ rowFits ws
+  unfolding rowFits
+  row-fits-is l s e o v x y z r m n el es em ee en eo ev ex ey ez er = simp (er, ez, ey, ex, ev, eo, en, ee, em, es, el)
+
+  pub row-is : (k : List ℕ) (h : Heard) (v : Judged) (p n : ℕ) → k ≡ keyOf ws → h ≡ heardOf ws → v ≡ verdictOf (drop 14 ws) → p ≡ low32 (getD ws 21 0) → n ≡ low32 (getD ws 22 0)
+      → record { key = k; part = record { heard = h; verdict = v }; prev = p; next = n } ≡ rowOf ws
+  unfolding rowOf
+  row-is k h v p n ek eh ev ep en = simp (ek, eh, ev, ep, en)
+
+  pub opens : (t : Bool) (r : Row) → t ≡ rowFits ws → t ≡ true → r ≡ rowOf ws → r ≡ openedOf ws
+  unfolding openedOf
+  opens t r e h g = simp (sym e ∙ h, g)
+
+  pub opens-junk : (t : Bool) (r : Row) → t ≡ rowFits ws → t ≡ false → r ≡ junk → r ≡ openedOf ws
+  unfolding openedOf
+  opens-junk t r e h g = simp (sym e ∙ h, g)

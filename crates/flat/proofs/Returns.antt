@@ -1,0 +1,229 @@
+-- Closed and opened again, a row within its ranges is itself: a law for each part, whatever words follow, and the row's by them.
+use mathlib.Core.Path.{_≡_, refl, sym, ap, _∙_, subst}
+use Prim.Native.Nat.{ℕ, _+_, _%_, _^_, _≤_, _<_}
+use native.Mathlib.Omega.{arith}
+use native.Mathlib.Nat.{mod-eq-of-lt}
+use mathlib.Core.Bool.{Bool, true, false, cond, not, _&&_}
+use mathlib.Core.List.{List, [], _∷_, _++_, append-assoc}
+use borrow.Author.Tests.{le-leb}
+use lib.Dec.{T, eqb, leb}
+use lib.ListN.{length, getD, drop}
+use lib.IntN.{ℤ}
+use lib.Ieee.{binary64, ofBits, toBits, nan}
+use lib.Ieee.Bits.{ofBits-toBits}
+use mir.Syntax.{w32}
+use mir.Val.{ofZ, toZ, SFits}
+use mir.ValLaws.{toZ-ofZ, ofZ-fits}
+use Rattle.floats.specs.Degrees.{within}
+use Rattle.sites.specs.Sites.{held}
+use Rattle.sites.specs.declared.Altitude.{Altitude}
+use Rattle.sites.specs.declared.Altitude.the-variants.{Metres, Unknown}
+use Rattle.sites.specs.declared.Site.{Site}
+use Rattle.sites.specs.declared.Claimed.{Claimed}
+use Rattle.sites.specs.declared.Claimed.the-variants.{At, Nowhere}
+use Rattle.view.specs.declared.EpochId.{EpochId}
+use Rattle.view.specs.declared.EpochId.the-variants as Ids
+use Rattle.receiver.specs.declared.Heard.{Heard}
+use Rattle.receiver.specs.declared.Last.{Last}
+use Rattle.receiver.specs.declared.Last.the-variants.{Unjudged, Fits, Wrong}
+use Rattle.receiver.specs.declared.WrongBy.{WrongBy}
+use Rattle.receiver.specs.declared.WrongBy.the-variants as By
+use Rattle.receiver.specs.declared.Verdict.{Verdict}
+use Rattle.receiver.specs.declared.Judged.{Judged}
+use Rattle.receiver.specs.declared.Judged.the-variants.{With, Never}
+use Rattle.rows.specs.declared.Row.{Row}
+use Rattle.rows.specs.Read.{fits}
+use Rattle.flat.specs.Words.{most32, most64, low32, keyWords, keyOf, maybeFits, altitudeWords, altitudeOf, siteWords, siteOf, siteFits, idWords, idOf, lastWord, lastOf, byWords, byOf, verdictWords, runOf, verdictOf, runFits, verdictFits, heardWords, closedOf, rowFits, heardOf, rowOf, junk, openedOf}
+use Rattle.flat.specs.Ranges.{KeyIn, AltitudeIn, SiteIn, IdIn, ByIn, RunIn, VerdictIn, HeardIn, RowIn}
+use Rattle.flat.proofs.Runs.{here, there, past}
+use Rattle.flat.proofs.Keys.{key-words, key-back}
+use Rattle.flat.proofs.Closing.{site-words, id-words, verdict-words}
+
+low-is : (n : ℕ) → n ≤ most32 → low32 n ≡ n
+unfolding most32
+low-is n h = mod-eq-of-lt (omega arith)
+
+-- ALTITUDE AND SITE
+altitude-back : (a : Altitude) (q : List ℕ) → AltitudeIn a → altitudeOf (altitudeWords a ++ q) ≡ a
+unfolding altitudeOf altitudeWords
+altitude-back (Metres m) q h = ap (λ (n : ℕ). Metres (toZ w32 n)) (mod-eq-of-lt (ofZ-fits w32 m h .fits)) ∙ ap Metres (toZ-ofZ w32 m h)
+altitude-back Unknown q h = refl
+
+altitude-fits : (a : Altitude) (q : List ℕ) → AltitudeIn a → maybeFits most32 (altitudeWords a ++ q) ≡ true
+unfolding maybeFits altitudeWords most32
+altitude-fits (Metres m) q h = le-leb (ofZ w32 m) 4294967295 (omega (arith, ofZ-fits w32 m h .fits))
+altitude-fits Unknown q h = refl
+
+site-back : (c : Claimed) (q : List ℕ) → SiteIn c → siteOf (siteWords c ++ q) ≡ c
+unfolding siteOf siteWords
+site-back (At s) q h = simp (ofBits-toBits binary64 (s .lat) (h .0), ofBits-toBits binary64 (s .lon) (h .1 .0), altitude-back (s .«alt_m») q (h .1 .1))
+site-back Nowhere q h = refl
+
+site-fits : (c : Claimed) (q : List ℕ) → SiteIn c → siteFits (siteWords c ++ q) ≡ true
+unfolding siteFits siteWords
+site-fits (At s) q h = altitude-fits (s .«alt_m») q (h .1 .1)
+site-fits Nowhere q h = refl
+
+-- EPOCH ID
+id-back : (i : EpochId) (q : List ℕ) → idOf (idWords i ++ q) ≡ i
+unfolding idOf idWords
+id-back (Ids.Id n) q = refl
+id-back Ids.Nothing q = refl
+
+id-fits : (i : EpochId) (q : List ℕ) → IdIn i → maybeFits most64 (idWords i ++ q) ≡ true
+unfolding maybeFits idWords
+id-fits (Ids.Id n) q h = le-leb n most64 h
+id-fits Ids.Nothing q h = refl
+
+-- VERDICT
+last-back : (l : Last) → lastOf (lastWord l) ≡ l
+last-back Unjudged = refl
+last-back Fits = refl
+last-back Wrong = refl
+
+last-fits : (l : Last) → leb (lastWord l) 2 ≡ true
+last-fits Unjudged = refl
+last-fits Fits = refl
+last-fits Wrong = refl
+
+by-back : (b : WrongBy) (q : List ℕ) → ByIn b → byOf (byWords b ++ q) ≡ b
+unfolding byOf byWords
+by-back (By.Km d) q h = ap By.Km (low-is d h)
+by-back By.Nothing q h = refl
+
+by-fits : (b : WrongBy) (q : List ℕ) → ByIn b → maybeFits most32 (byWords b ++ q) ≡ true
+unfolding maybeFits byWords
+by-fits (By.Km d) q h = le-leb d most32 h
+by-fits By.Nothing q h = refl
+
+by-past : (b : WrongBy) (m : ℕ) (q : List ℕ) → getD (byWords b ++ (m ∷ q)) 2 0 ≡ m
+unfolding byWords
+by-past (By.Km d) m q = refl
+by-past By.Nothing m q = refl
+
+moved-back : (t : Bool) → not (eqb (cond t 1 0) 0) ≡ t
+moved-back true = refl
+moved-back false = refl
+
+moved-fits : (t : Bool) → leb (cond t 1 0) 1 ≡ true
+moved-fits true = refl
+moved-fits false = refl
+
+verdict-back : (j : Judged) (q : List ℕ) → VerdictIn j → verdictOf (verdictWords j ++ q) ≡ j
+unfolding verdictOf runOf verdictWords
+verdict-back (With v) q h =
+    let b = v .«wrong_by» in let m = cond {A = ℕ} (v .moved) 1 0 in
+    simp (append-assoc (byWords b) (m ∷ []) q, last-back (v .last), mod-eq-of-lt {n = v .«wrong_run»} {m = 256} (omega (arith, h .0)), mod-eq-of-lt {n = v .«other_run»} {m = 256} (omega (arith, h .1 .0)), by-back b (m ∷ q) (h .1 .1), by-past b m q, moved-back (v .moved))
+verdict-back Never q h = refl
+
+verdict-fits : (j : Judged) (q : List ℕ) → VerdictIn j → verdictFits (verdictWords j ++ q) ≡ true
+unfolding verdictFits runFits verdictWords
+verdict-fits (With v) q h =
+    let b = v .«wrong_by» in let m = cond {A = ℕ} (v .moved) 1 0 in
+    simp (append-assoc (byWords b) (m ∷ []) q, last-fits (v .last), le-leb (v .«wrong_run») 255 (h .0), le-leb (v .«other_run») 255 (h .1 .0), by-fits b (m ∷ q) (h .1 .1), by-past b m q, moved-fits (v .moved))
+verdict-fits Never q h = refl
+
+-- A ROW: what is left of its words from each part on
+abbrev links : Row → List ℕ
+links r = r .prev ∷ r .next ∷ []
+
+abbrev verdictOn : Row → List ℕ
+verdictOn r = verdictWords (r .part .verdict) ++ links r
+
+abbrev oddOn : Row → List ℕ
+oddOn r = idWords (r .part .heard .odd) ++ verdictOn r
+
+abbrev evenOn : Row → List ℕ
+evenOn r = idWords (r .part .heard .even) ++ oddOn r
+
+abbrev siteOn : Row → List ℕ
+siteOn r = siteWords (r .part .heard .site) ++ (r .part .heard .generation ∷ evenOn r)
+
+module _ (r : Row) where
+  heard-on : heardWords (r .part .heard) ++ verdictOn r ≡ siteOn r
+  unfolding heardWords
+  heard-on =
+      let h = r .part .heard in
+      append-assoc (siteWords (h .site)) (h .generation ∷ (idWords (h .even) ++ idWords (h .odd))) (verdictOn r)
+      ∙ ap (λ (l : List ℕ). siteWords (h .site) ++ (h .generation ∷ l)) (append-assoc (idWords (h .even)) (idWords (h .odd)) (verdictOn r))
+
+  closed-is : closedOf r ≡ keyWords (r .key) ++ siteOn r
+  unfolding closedOf
+  closed-is = ap (λ (l : List ℕ). keyWords (r .key) ++ l) heard-on
+
+  from4 : drop 4 (closedOf r) ≡ siteOn r
+  from4 = past (closedOf r) (keyWords (r .key)) (siteOn r) 0 4 closed-is (key-words (r .key))
+
+  from9 : drop 9 (closedOf r) ≡ r .part .heard .generation ∷ evenOn r
+  from9 = past (closedOf r) (siteWords (r .part .heard .site)) (r .part .heard .generation ∷ evenOn r) 4 5 from4 (site-words (r .part .heard .site))
+
+  from10 : drop 10 (closedOf r) ≡ evenOn r
+  from10 = past (closedOf r) (r .part .heard .generation ∷ []) (evenOn r) 9 1 from9 refl
+
+  from12 : drop 12 (closedOf r) ≡ oddOn r
+  from12 = past (closedOf r) (idWords (r .part .heard .even)) (oddOn r) 10 2 from10 (id-words (r .part .heard .even))
+
+  from14 : drop 14 (closedOf r) ≡ verdictOn r
+  from14 = past (closedOf r) (idWords (r .part .heard .odd)) (verdictOn r) 12 2 from12 (id-words (r .part .heard .odd))
+
+  from21 : drop 21 (closedOf r) ≡ links r
+  from21 = past (closedOf r) (verdictWords (r .part .verdict)) (links r) 14 7 from14 (verdict-words (r .part .verdict))
+
+  at9 : getD (closedOf r) 9 0 ≡ r .part .heard .generation
+  at9 = sym (here (closedOf r) 9) ∙ ap (λ (l : List ℕ). getD l 0 0) from9
+
+  at21 : getD (closedOf r) 21 0 ≡ r .prev
+  at21 = sym (here (closedOf r) 21) ∙ ap (λ (l : List ℕ). getD l 0 0) from21
+
+  at22 : getD (closedOf r) 22 0 ≡ r .next
+  at22 = sym (there (closedOf r) 21 1) ∙ ap (λ (l : List ℕ). getD l 1 0) from21
+
+  closed-fits : RowIn r → rowFits (closedOf r) ≡ true
+  unfolding rowFits
+  closed-fits h = simp (
+    at9,
+    at21,
+    at22,
+    from4,
+    from10,
+    from12,
+    from14,
+    le-leb (r .part .heard .generation) most32 (h .heard .generation),
+    le-leb (r .prev) most32 (h .prev),
+    le-leb (r .next) most32 (h .next),
+    site-fits (r .part .heard .site) (r .part .heard .generation ∷ evenOn r) (h .heard .site),
+    id-fits (r .part .heard .even) (oddOn r) (h .heard .even),
+    id-fits (r .part .heard .odd) (verdictOn r) (h .heard .odd),
+    verdict-fits (r .part .verdict) (links r) (h .verdict),
+  )
+
+  heard-back : RowIn r → heardOf (closedOf r) ≡ r .part .heard
+  heard-back h = simp (
+    at9,
+    from4,
+    from10,
+    from12,
+    low-is (r .part .heard .generation) (h .heard .generation),
+    site-back (r .part .heard .site) (r .part .heard .generation ∷ evenOn r) (h .heard .site),
+    id-back (r .part .heard .even) (oddOn r),
+    id-back (r .part .heard .odd) (verdictOn r),
+  )
+
+  row-back : RowIn r → rowOf (closedOf r) ≡ r
+  unfolding rowOf
+  row-back h =
+      let k : keyOf (closedOf r) ≡ r .key = ap keyOf closed-is ∙ key-back (r .key) (siteOn r) (h .key) in
+      let v : verdictOf (drop 14 (closedOf r)) ≡ r .part .verdict = ap verdictOf from14 ∙ verdict-back (r .part .verdict) (links r) (h .verdict) in
+      let p : low32 (getD (closedOf r) 21 0) ≡ r .prev = ap low32 at21 ∙ low-is (r .prev) (h .prev) in
+      let n : low32 (getD (closedOf r) 22 0) ≡ r .next = ap low32 at22 ∙ low-is (r .next) (h .next) in
+      simp (k, heard-back h, v, p, n)
+
+-- THE LAW OF RETURN
+pub opened-closed : (r : Row) → RowIn r → openedOf (closedOf r) ≡ r
+unfolding openedOf
+opened-closed r h = simp (closed-fits r h, row-back r h)
+
+-- question 2 refuses a row whose words are out of range
+pub junk-unfit : fits (junk .part) ≡ false
+unfolding junk within
+junk-unfit = refl

@@ -1,0 +1,46 @@
+-- `flat::put_by` meets its contract: each way out is a law that is cited below, at what the code found.
+use Rattle.flat.proofs.Closing.{by-puts, by-in, by-puts-none, by-in-none}
+use borrow.Author.Needs.{needs}
+use Rattle.flat.proofs.put_by.Statement.{statement}
+use Rattle.flat.proofs.put_by.Tie as tie
+
+enum-known-by : tie.Need-enum-known-by
+enum-known-by c = search needs
+
+wide32-requires : tie.Need-wide32-requires
+wide32-requires c κs = search needs
+
+put2-requires : tie.Need-put2-requires
+put2-requires c κs = search needs
+
+enum-told : tie.Need-enum-told
+enum-told c = search needs
+
+put2-requires-2 : tie.Need-put2-requires-2
+put2-requires-2 c κs = search needs
+
+same-length : tie.Need-same-length
+same-length c = search needs
+
+returns : tie.Need-returns
+returns c = search (by-puts, by-in, needs)
+
+same-length-2 : tie.Need-same-length-2
+same-length-2 c = search needs
+
+returns-2 : tie.Need-returns-2
+returns-2 c = search (by-puts-none, by-in-none, needs)
+
+pub put-by-spec : {M : Type 1} → statement M
+put-by-spec =
+    tie.close
+    (tie.spec
+    enum-known-by
+    wide32-requires
+    put2-requires
+    enum-told
+    put2-requires-2
+    same-length
+    returns
+    same-length-2
+    returns-2)

@@ -1,0 +1,42 @@
+-- `flat::site_fits` meets its contract: each way out is a law that is cited below, at what the code found.
+use Rattle.flat.proofs.Opening.{site-fits-none, site-fits-some, site-fits-other}
+use borrow.Author.Needs.{needs}
+use Rattle.flat.proofs.site_fits.Statement.{statement}
+use Rattle.flat.proofs.site_fits.Tie as tie
+
+mul-tag : tie.Need-mul-tag
+mul-tag c = search needs
+
+shared-slice-read-tag : tie.Need-shared-slice-read-tag
+shared-slice-read-tag c = search needs
+
+returns : tie.Need-returns
+returns c = search (site-fits-none, needs)
+
+add-maybe-fits : tie.Need-add-maybe-fits
+add-maybe-fits c = search needs
+
+most32-requires : tie.Need-most32-requires
+most32-requires c κs = search needs
+
+maybe-fits-requires : tie.Need-maybe-fits-requires
+maybe-fits-requires c κs = search needs
+
+returns-2 : tie.Need-returns-2
+returns-2 c = search (site-fits-some, needs)
+
+returns-3 : tie.Need-returns-3
+returns-3 c = search (site-fits-other, needs)
+
+pub site-fits-spec : {M : Type 1} → statement M
+site-fits-spec =
+    tie.close
+    (tie.spec
+    mul-tag
+    shared-slice-read-tag
+    returns
+    add-maybe-fits
+    most32-requires
+    maybe-fits-requires
+    returns-2
+    returns-3)

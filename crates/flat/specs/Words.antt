@@ -1,0 +1,165 @@
+-- A row as 23 numbers of 64 bits, in this order: key, four little-endian words; site: 0, or 1 and the bits of lat and lon, then the altitude: 0, or 1 and
+-- its 32 bits; generation; even id and odd id: 0, or 1 and the id; verdict: 0, or 1, last, wrongs, others, distance (0, or 1 and it), moved; before; after.
+-- Words of what is absent are written as 0 and not read. Definitions only.
+use Prim.Native.Nat.{ℕ, zero, suc, _+_, _*_, _/_, _%_, _^_}
+use mathlib.Core.Bool.{Bool, true, false, cond, not, _&&_}
+use mathlib.Core.List.{List, [], _∷_, _++_}
+use lib.Dec.{eqb, leb}
+use lib.ListN.{getD, take, drop}
+use lib.Ieee.{nan, binary64, ofBits, toBits}
+use mir.Syntax.{w32}
+use mir.Val.{ofZ, toZ}
+use Rattle.sites.specs.declared.Altitude.{Altitude}
+use Rattle.sites.specs.declared.Altitude.the-variants.{Metres, Unknown}
+use Rattle.sites.specs.declared.Site.{Site}
+use Rattle.sites.specs.declared.Claimed.{Claimed}
+use Rattle.sites.specs.declared.Claimed.the-variants.{At, Nowhere}
+use Rattle.view.specs.declared.EpochId.{EpochId}
+use Rattle.view.specs.declared.EpochId.the-variants as Ids
+use Rattle.receiver.specs.declared.Heard.{Heard}
+use Rattle.receiver.specs.declared.Last.{Last}
+use Rattle.receiver.specs.declared.Last.the-variants.{Unjudged, Fits, Wrong}
+use Rattle.receiver.specs.declared.WrongBy.{WrongBy}
+use Rattle.receiver.specs.declared.WrongBy.the-variants as By
+use Rattle.receiver.specs.declared.Verdict.{Verdict}
+use Rattle.receiver.specs.declared.Judged.{Judged}
+use Rattle.receiver.specs.declared.Judged.the-variants.{With, Never}
+use Rattle.rows.specs.declared.Row.{Row}
+use Rattle.rows.specs.Links.{blank, withPart}
+
+-- the largest number of 32 bits, and of 64
+unfoldable pub most32 : ℕ
+most32 = 4294967295
+
+unfoldable pub most64 : ℕ
+most64 = 18446744073709551615
+
+-- the word at a place
+abbrev pub at : List ℕ → ℕ → ℕ
+at ws i = getD ws i 0
+
+-- the low 32 bits
+abbrev pub low32 : ℕ → ℕ
+low32 w = w % 2 ^ 32
+
+-- KEY
+unfoldable pub wordOf : List ℕ → ℕ
+wordOf [] = 0
+wordOf (b ∷ bs) = b + 256 * wordOf bs
+
+unfoldable pub bytesOf : ℕ → ℕ → List ℕ
+bytesOf zero w = []
+bytesOf (suc n) w = w % 256 ∷ bytesOf n (w / 256)
+
+-- eight bytes of a key, from the i-th on
+abbrev pub eight : List ℕ → ℕ → List ℕ
+eight k i = take 8 (drop i k)
+
+unfoldable pub keyWords : List ℕ → List ℕ
+keyWords k = wordOf (eight k 0) ∷ wordOf (eight k 8) ∷ wordOf (eight k 16) ∷ wordOf (eight k 24) ∷ []
+
+unfoldable pub keyOf : List ℕ → List ℕ
+keyOf ws = bytesOf 8 (at ws 0) ++ (bytesOf 8 (at ws 1) ++ (bytesOf 8 (at ws 2) ++ bytesOf 8 (at ws 3)))
+
+-- A NUMBER OR NONE: 0, or 1 and a number that is at most so much
+unfoldable pub maybeFits : ℕ → List ℕ → Bool
+maybeFits most ws = cond (eqb (at ws 0) 0) true (eqb (at ws 0) 1 && leb (at ws 1) most)
+
+-- ALTITUDE
+unfoldable pub altitudeWords : Altitude → List ℕ
+altitudeWords (Metres m) = 1 ∷ ofZ w32 m ∷ []
+altitudeWords Unknown = 0 ∷ 0 ∷ []
+
+unfoldable pub altitudeOf : List ℕ → Altitude
+altitudeOf ws = cond (eqb (at ws 0) 0) Unknown (Metres (toZ w32 (low32 (at ws 1))))
+
+-- SITE
+unfoldable pub siteWords : Claimed → List ℕ
+siteWords (At s) = 1 ∷ toBits binary64 (s .lat) ∷ toBits binary64 (s .lon) ∷ altitudeWords (s .«alt_m»)
+siteWords Nowhere = 0 ∷ 0 ∷ 0 ∷ 0 ∷ 0 ∷ []
+
+unfoldable pub siteOf : List ℕ → Claimed
+siteOf ws = cond (eqb (at ws 0) 0) Nowhere (At (record { lat = ofBits binary64 (at ws 1); lon = ofBits binary64 (at ws 2); «alt_m» = altitudeOf (drop 3 ws) }))
+
+unfoldable pub siteFits : List ℕ → Bool
+siteFits ws = cond (eqb (at ws 0) 0) true (eqb (at ws 0) 1 && maybeFits most32 (drop 3 ws))
+
+-- EPOCH ID
+unfoldable pub idWords : EpochId → List ℕ
+idWords (Ids.Id n) = 1 ∷ n ∷ []
+idWords Ids.Nothing = 0 ∷ 0 ∷ []
+
+unfoldable pub idOf : List ℕ → EpochId
+idOf ws = cond (eqb (at ws 0) 0) Ids.Nothing (Ids.Id (at ws 1))
+
+-- VERDICT
+abbrev pub lastWord : Last → ℕ
+lastWord Unjudged = 0
+lastWord Fits = 1
+lastWord Wrong = 2
+
+abbrev pub lastOf : ℕ → Last
+lastOf w = cond (eqb w 0) Unjudged (cond (eqb w 1) Fits Wrong)
+
+unfoldable pub byWords : WrongBy → List ℕ
+byWords (By.Km d) = 1 ∷ d ∷ []
+byWords By.Nothing = 0 ∷ 0 ∷ []
+
+unfoldable pub byOf : List ℕ → WrongBy
+byOf ws = cond (eqb (at ws 0) 0) By.Nothing (By.Km (low32 (at ws 1)))
+
+unfoldable pub verdictWords : Judged → List ℕ
+verdictWords (With v) = 1 ∷ lastWord (v .last) ∷ v .«wrong_run» ∷ v .«other_run» ∷ (byWords (v .«wrong_by») ++ (cond (v .moved) 1 0 ∷ []))
+verdictWords Never = 0 ∷ 0 ∷ 0 ∷ 0 ∷ 0 ∷ 0 ∷ 0 ∷ []
+
+unfoldable pub runOf : List ℕ → Verdict
+runOf ws = record { last = lastOf (at ws 1); «wrong_run» = at ws 2 % 256; «other_run» = at ws 3 % 256; «wrong_by» = byOf (drop 4 ws); moved = not (eqb (at ws 6) 0) }
+
+unfoldable pub verdictOf : List ℕ → Judged
+verdictOf ws = cond (eqb (at ws 0) 0) Never (With (runOf ws))
+
+unfoldable pub runFits : List ℕ → Bool
+runFits ws = eqb (at ws 0) 1 && ((leb (at ws 1) 2 && (leb (at ws 2) 255 && leb (at ws 3) 255)) && (maybeFits most32 (drop 4 ws) && leb (at ws 6) 1))
+
+unfoldable pub verdictFits : List ℕ → Bool
+verdictFits ws = cond (eqb (at ws 0) 0) true (runFits ws)
+
+-- A ROW
+unfoldable pub wordsOfRow : ℕ
+wordsOfRow = 23
+
+unfoldable pub heardWords : Heard → List ℕ
+heardWords h = siteWords (h .site) ++ (h .generation ∷ (idWords (h .even) ++ idWords (h .odd)))
+
+unfoldable pub closedOf : Row → List ℕ
+closedOf r = keyWords (r .key) ++ (heardWords (r .part .heard) ++ (verdictWords (r .part .verdict) ++ (r .prev ∷ r .next ∷ [])))
+
+-- every word within its range
+unfoldable pub rowFits : List ℕ → Bool
+rowFits ws =
+    (leb (at ws 9) most32 && (leb (at ws 21) most32 && leb (at ws 22) most32))
+    && (siteFits (drop 4 ws) && (maybeFits most64 (drop 10 ws) && (maybeFits most64 (drop 12 ws) && verdictFits (drop 14 ws))))
+
+abbrev pub heardOf : List ℕ → Heard
+heardOf ws = record { site = siteOf (drop 4 ws); generation = low32 (at ws 9); even = idOf (drop 10 ws); odd = idOf (drop 12 ws) }
+
+unfoldable pub rowOf : List ℕ → Row
+rowOf ws = record {
+  key = keyOf ws;
+  part = record { heard = heardOf ws; verdict = verdictOf (drop 14 ws) };
+  prev = low32 (at ws 21);
+  next = low32 (at ws 22);
+}
+
+-- what a row of other words opens as: question 2 refuses its site, which is not within degrees
+abbrev pub junkSite : Site
+junkSite = record { lat = nan; lon = nan; «alt_m» = Unknown }
+
+unfoldable pub junk : Row
+junk = withPart blank (record {
+  heard = record { site = At junkSite; generation = 0; even = Ids.Nothing; odd = Ids.Nothing };
+  verdict = Never;
+})
+
+unfoldable pub openedOf : List ℕ → Row
+openedOf ws = cond (rowFits ws) (rowOf ws) junk
