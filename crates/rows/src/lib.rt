@@ -114,7 +114,7 @@ pub fn with_prev(mut row: Row, n: u32) -> Row
     row
 }
 
-fn with_links(mut row: Row, p: u32, n: u32) -> Row
+pub fn with_links(mut row: Row, p: u32, n: u32) -> Row
     ensures { λ r. ⌜ r ≡ withLinks row p n ⌝ }
 {
     row.prev = p;
@@ -129,26 +129,26 @@ pub fn with_part(mut row: Row, part: Part) -> Row
     row
 }
 
-fn prev_of(row: Row) -> u32
+pub fn prev_of(row: Row) -> u32
     ensures { λ r. ⌜ r ≡ row .prev ⌝ }
 {
     row.prev
 }
 
-fn next_of(row: Row) -> u32
+pub fn next_of(row: Row) -> u32
     ensures { λ r. ⌜ r ≡ row .next ⌝ }
 {
     row.next
 }
 
 // A free row, followed by n.
-fn unmade_row(n: u32) -> Row
+pub fn unmade_row(n: u32) -> Row
     ensures { λ r. ⌜ r ≡ unmade n ⌝ }
 {
     with_next(unmade(), n)
 }
 
-fn made_row(old: Row, key: Key, part: Part) -> Row
+pub fn made_row(old: Row, key: Key, part: Part) -> Row
     ensures { λ r. ⌜ r ≡ madeRow old key part ⌝ }
 {
     let k = key.bytes;
@@ -224,7 +224,7 @@ fn pick(a: u32, x: u32, y: u32) -> u32
     if t { x } else { y }
 }
 
-fn out_ends(e: Ends, p: u32, n: u32) -> Ends
+pub fn out_ends(e: Ends, p: u32, n: u32) -> Ends
     ensures { λ r. ⌜ r ≡ outEnds e p n ⌝ }
 {
     let h = pick(p, n, e.head);
@@ -236,7 +236,7 @@ fn out_ends(e: Ends, p: u32, n: u32) -> Ends
     }
 }
 
-fn linked_ends(e: Ends, i: u32) -> Ends
+pub fn linked_ends(e: Ends, i: u32) -> Ends
     ensures { λ r. ⌜ r ≡ linkedEnds e i ⌝ }
 {
     let h = pick(e.tail, i, e.head);
@@ -247,7 +247,7 @@ fn linked_ends(e: Ends, i: u32) -> Ends
     }
 }
 
-fn with_free(e: Ends, n: u32) -> Ends
+pub fn with_free(e: Ends, n: u32) -> Ends
     ensures { λ r. ⌜ r ≡ withFree e n ⌝ }
 {
     Ends {
@@ -263,26 +263,26 @@ pub fn head_of(e: Ends) -> u32
     e.head
 }
 
-fn tail_of(e: Ends) -> u32
+pub fn tail_of(e: Ends) -> u32
     ensures { λ r. ⌜ r ≡ e .tail ⌝ }
 {
     e.tail
 }
 
-fn free_of(e: Ends) -> u32
+pub fn free_of(e: Ends) -> u32
     ensures { λ r. ⌜ r ≡ e .free ⌝ }
 {
     e.free
 }
 
-fn has_free(e: Ends) -> bool
+pub fn has_free(e: Ends) -> bool
     ensures { λ r. ⌜ r ≡ not (eqb (e .free) NONE) ⌝ }
 {
     let t = is_none(e.free);
     !t
 }
 
-fn same_ends(e: Ends) -> Ends
+pub fn same_ends(e: Ends) -> Ends
     ensures { λ r. ⌜ r ≡ e ⌝ }
 {
     e
@@ -387,7 +387,7 @@ pub struct Seat {
     pub key: [u8; 32],
 }
 
-fn kept_seat(d: Ends, i: u32) -> Seat
+pub fn kept_seat(d: Ends, i: u32) -> Seat
     ensures { λ r. ⌜ r ≡ keptSeat d i ⌝ }
 {
     Seat {
@@ -400,7 +400,7 @@ fn kept_seat(d: Ends, i: u32) -> Seat
 }
 
 // With no row free in e, the oldest was pushed out.
-fn made_seat(e: Ends, old: Row, d: Ends) -> Seat
+pub fn made_seat(e: Ends, old: Row, d: Ends) -> Seat
     ensures { λ r. ⌜ r ≡ madeSeat e old d ⌝ }
 {
     let t = is_none(e.free);
@@ -450,7 +450,7 @@ pub enum Look {
     At(u32),
 }
 
-fn more(s: Cursor, n: usize) -> bool
+pub fn more(s: Cursor, n: usize) -> bool
     ensures { λ r. ⌜ r ≡ moreOf s n ⌝ }
 {
     if s.fits {
@@ -516,7 +516,7 @@ fn first_found(f: u32, at: u32, t: bool) -> u32
     f
 }
 
-fn step(s: Cursor, row: Row) -> Cursor
+pub fn step(s: Cursor, row: Row) -> Cursor
     ensures { λ r. ⌜ r ≡ stepOf s row ⌝ }
 {
     let left = s.left;
@@ -570,13 +570,13 @@ fn start(n: usize, at: u32, back: bool, key: Key) -> Cursor
     }
 }
 
-fn used_start(n: usize, e: Ends, key: Key) -> Cursor
+pub fn used_start(n: usize, e: Ends, key: Key) -> Cursor
     ensures { λ r. ⌜ r ≡ startOf n (e .head) true key ⌝ }
 {
     start(n, e.head, true, key)
 }
 
-fn free_start(n: usize, e: Ends, key: Key) -> Cursor
+pub fn free_start(n: usize, e: Ends, key: Key) -> Cursor
     ensures { λ r. ⌜ r ≡ startOf n (e .free) false key ⌝ }
 {
     start(n, e.free, false, key)
@@ -648,7 +648,7 @@ fn found_at(f: u32) -> Look
     if t { Look::No(3) } else { Look::At(f) }
 }
 
-fn look_of(n: usize, e: Ends, a: Cursor, b: Cursor) -> Look
+pub fn look_of(n: usize, e: Ends, a: Cursor, b: Cursor) -> Look
     ensures { λ r. ⌜ r ≡ lookOf n (e .tail) a b ⌝ }
 {
     let t = chains_fit(n, e.tail, a, b);
@@ -661,7 +661,7 @@ pub fn negated(t: bool) -> bool
     !t
 }
 
-fn no_one() -> Look
+pub fn no_one() -> Look
     ensures { λ r. ⌜ r ≡ Look.No 1 ⌝ }
 {
     Look::No(1)
@@ -728,7 +728,7 @@ pub fn found(rows: &[Row], l: Look) -> Row
 // ---- fresh rows
 
 // Row i of n.
-fn fresh_row(n: usize, i: usize) -> Row
+pub fn fresh_row(n: usize, i: usize) -> Row
     ensures { λ r. ⌜ r ≡ freshOf n i ⌝ }
 {
     let none = no_row();

@@ -51,13 +51,13 @@ unfoldable pub filled : {X : Type 0} → (ℕ → X) → ℕ → ℕ → List X 
 filled f zero i xs = xs
 filled f (suc k) i xs = filled f k (i + 1) (set xs i (f i))
 
-makes-one : {X : Type 0} (f : ℕ → X) (n i : ℕ) (zs : List X) → i < n → filled f (n - i) i zs ≡ filled f (n - (i + 1)) (i + 1) (set zs i (f i))
+pub makes-one : {X : Type 0} (f : ℕ → X) (n i : ℕ) (zs : List X) → i < n → filled f (n - i) i zs ≡ filled f (n - (i + 1)) (i + 1) (set zs i (f i))
 unfolding filled
 makes-one f n i zs h =
     let e : n - i ≡ suc (n - (i + 1)) = omega arith in
     ap (λ (k : ℕ). filled f k i zs) e
 
-makes-no-more : {X : Type 0} (f : ℕ → X) (n i : ℕ) (zs : List X) → n ≤ i → filled f (n - i) i zs ≡ zs
+pub makes-no-more : {X : Type 0} (f : ℕ → X) (n i : ℕ) (zs : List X) → n ≤ i → filled f (n - i) i zs ≡ zs
 unfolding filled
 makes-no-more f n i zs h =
     let e : n - i ≡ 0 = omega arith in

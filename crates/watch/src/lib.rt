@@ -50,7 +50,7 @@ pub struct Answer {
 
 // ---- the ends
 
-fn ends_of(ends: &mut [u32; 3]) -> Ends
+pub fn ends_of(ends: &mut [u32; 3]) -> Ends
     ensures { λ r. ⌜ (endsOf r ≡ endsIs (now (ends .entry))) × (now (ends .exit) ≡ now (ends .entry)) ⌝ }
 {
     Ends {
@@ -60,7 +60,7 @@ fn ends_of(ends: &mut [u32; 3]) -> Ends
     }
 }
 
-fn keep(ends: &mut [u32; 3], e: Ends)
+pub fn keep(ends: &mut [u32; 3], e: Ends)
     ensures { λ _. ⌜ endsIs (now (ends .exit)) ≡ endsOf e ⌝ }
 {
     *ends = [e.head, e.tail, e.free];
@@ -97,7 +97,7 @@ fn empty(cells: &mut [u32], i: u32)
     receiver::site::empty(cells, a, n);
 }
 
-fn fresh_cells(cells: &mut [u32])
+pub fn fresh_cells(cells: &mut [u32])
     ensures { λ _. ⌜ now (cells .exit) ≡ replicate (length (now (cells .entry))) emptyWord ⌝ }
 {
     let n = cells.len();
@@ -143,7 +143,7 @@ fn judge_cells(cells: &[u32], i: u32, heard: Heard, now_ms: u64, aircraft: u64) 
 }
 
 // The row that was found is judged.
-fn judge_at(cells: &[u32], l: Look, heard: Heard, now_ms: u64, aircraft: u64) -> Judgment
+pub fn judge_at(cells: &[u32], l: Look, heard: Heard, now_ms: u64, aircraft: u64) -> Judgment
     requires { ⌜ RoomAt l (length (now cells)) ⌝ }
     ensures { λ r. ⌜ r ≡ judgedAt l heard (now (cells .entry)) «now_ms» aircraft ⌝ }
 {
@@ -155,7 +155,7 @@ fn judge_at(cells: &[u32], l: Look, heard: Heard, now_ms: u64, aircraft: u64) ->
 
 // ---- answers
 
-fn zero_key() -> Key
+pub fn zero_key() -> Key
     ensures { λ r. ⌜ r ≡ noKey ⌝ }
 {
     Key { bytes: [0u8; 32] }
@@ -179,13 +179,13 @@ fn refused(n: u8) -> Answer
     say(Word::Refused(n))
 }
 
-fn no_to(l: Look) -> Answer
+pub fn no_to(l: Look) -> Answer
     ensures { λ r. ⌜ r ≡ saying (Word.Refused (numberOf l)) ⌝ }
 {
     refused(rows::number_of(l))
 }
 
-fn done() -> Answer
+pub fn done() -> Answer
     ensures { λ r. ⌜ r ≡ saying Word.Done ⌝ }
 {
     say(Word::Done)
@@ -204,7 +204,7 @@ fn freed(key: Key) -> Answer
 
 // ---- fresh
 
-fn no_first() -> Answer
+pub fn no_first() -> Answer
     ensures { λ r. ⌜ r ≡ saying (Word.Refused 1) ⌝ }
 {
     refused(1)
@@ -235,14 +235,14 @@ pub struct Move {
     pub answer: Answer,
 }
 
-fn keep_move(ends: &mut [u32; 3], m: Move)
+pub fn keep_move(ends: &mut [u32; 3], m: Move)
     ensures { λ _. ⌜ endsIs (now (ends .exit)) ≡ endsOf (m .ends) ⌝ }
 {
     let e = m.ends;
     keep(ends, e);
 }
 
-fn empty_move(cells: &mut [u32], m: Move)
+pub fn empty_move(cells: &mut [u32], m: Move)
     requires { ⌜ RoomAt (m .clear) (length (now cells)) ⌝ }
     ensures { λ _. ⌜ now (cells .exit) ≡ emptiedAt (now (cells .entry)) (m .clear) ⌝ }
 {
@@ -250,7 +250,7 @@ fn empty_move(cells: &mut [u32], m: Move)
     empty_at(cells, l);
 }
 
-fn answer_of(m: Move) -> Answer
+pub fn answer_of(m: Move) -> Answer
     ensures { λ r. ⌜ r ≡ m .answer ⌝ }
 {
     m.answer
@@ -267,7 +267,7 @@ fn stay(e: Ends, answer: Answer) -> Move
     }
 }
 
-fn moving(d: Ends, l: Look, answer: Answer) -> Move
+pub fn moving(d: Ends, l: Look, answer: Answer) -> Move
     ensures { λ r. ⌜ r ≡ record { ends = d; clear = l; answer = answer } ⌝ }
 {
     Move {
@@ -280,7 +280,7 @@ fn moving(d: Ends, l: Look, answer: Answer) -> Move
 // ---- claim
 
 // What the claim comes to on a row.
-fn claiming(row: Row, site: Claimed) -> Claiming
+pub fn claiming(row: Row, site: Claimed) -> Claiming
     requires { ⌜ siteFits (row .part .heard .site) ≡ true ⌝ }
     ensures { λ r. ⌜ ((l : List ℕ) → claimingIs r l ≡ claimed (row .part .heard) l site) ⌝ }
 {
@@ -289,7 +289,7 @@ fn claiming(row: Row, site: Claimed) -> Claiming
     receiver::site::set_site(heard, site)
 }
 
-fn is_refused(c: Claiming) -> bool
+pub fn is_refused(c: Claiming) -> bool
     ensures { λ r. ⌜ r ≡ isRefused c ⌝ }
 {
     match c {
@@ -326,7 +326,7 @@ fn ended_if(t: bool, v: Judged) -> Judged
     if t { receiver::run::ended(v) } else { v }
 }
 
-fn claim_part(row: Row, c: Claiming) -> Part
+pub fn claim_part(row: Row, c: Claiming) -> Part
     ensures { λ r. ⌜ r ≡ claimPart (row .part) c ⌝ }
 {
     let part = row.part;
@@ -337,13 +337,13 @@ fn claim_part(row: Row, c: Claiming) -> Part
     }
 }
 
-fn unfit_move(e: Ends, l: Look) -> Move
+pub fn unfit_move(e: Ends, l: Look) -> Move
     ensures { λ r. ⌜ r ≡ staying e (saying (Word.Refused (numberOf l))) ⌝ }
 {
     stay(e, no_to(l))
 }
 
-fn outside_move(e: Ends) -> Move
+pub fn outside_move(e: Ends) -> Move
     ensures { λ r. ⌜ r ≡ staying e (saying (Word.Refused 4)) ⌝ }
 {
     stay(e, refused(4))
@@ -372,7 +372,7 @@ fn clear_of(s: Seat, c: Claiming) -> Look
     if moved { Look::At(s.at) } else { Look::No(0) }
 }
 
-fn seat_move(s: Seat, c: Claiming) -> Move
+pub fn seat_move(s: Seat, c: Claiming) -> Move
     ensures { λ r. ⌜ r ≡ seatMove s c ⌝ }
 {
     let e = s.ends;
@@ -419,7 +419,7 @@ pub fn claim(
 // ---- position
 
 // What the position comes to on a row.
-fn hear(row: Row, p: Position) -> Hearing
+pub fn hear(row: Row, p: Position) -> Hearing
     requires { ⌜ siteFits (row .part .heard .site) ≡ true ⌝ }
     ensures { λ r. ⌜ ((l : List ℕ) → hearingIs r l ≡ positioned (row .part .heard) l p) × HearingFits r ⌝ }
 {
@@ -428,7 +428,7 @@ fn hear(row: Row, p: Position) -> Hearing
     receiver::site::heard(heard, p)
 }
 
-fn is_unheard(h: Hearing) -> bool
+pub fn is_unheard(h: Hearing) -> bool
     ensures { λ r. ⌜ r ≡ isUnheard h ⌝ }
 {
     match h {
@@ -450,7 +450,7 @@ fn hear_no(h: Hearing) -> Answer
     }
 }
 
-fn hear_part(row: Row, h: Hearing) -> Part
+pub fn hear_part(row: Row, h: Hearing) -> Part
     ensures { λ r. ⌜ r ≡ hearPart (row .part) h ⌝ }
 {
     let part = row.part;
@@ -477,7 +477,7 @@ pub struct Count {
     pub answer: Answer,
 }
 
-fn uncounted(e: Ends, l: Look) -> Count
+pub fn uncounted(e: Ends, l: Look) -> Count
     ensures { λ r. ⌜ r ≡ record { ends = e; at = 0; hearing = Hearing.Late; answer = saying (Word.Refused (numberOf l)) } ⌝ }
 {
     Count {
@@ -488,7 +488,7 @@ fn uncounted(e: Ends, l: Look) -> Count
     }
 }
 
-fn unheard(e: Ends, i: u32, h: Hearing) -> Count
+pub fn unheard(e: Ends, i: u32, h: Hearing) -> Count
     ensures { λ r. ⌜ r ≡ record { ends = e; at = i; hearing = h; answer = saying (Word.Refused (hearNo h)) } ⌝ }
 {
     Count {
@@ -499,7 +499,7 @@ fn unheard(e: Ends, i: u32, h: Hearing) -> Count
     }
 }
 
-fn counted(d: Ends, i: u32, h: Hearing) -> Count
+pub fn counted(d: Ends, i: u32, h: Hearing) -> Count
     ensures { λ r. ⌜ r ≡ record { ends = d; at = i; hearing = h; answer = saying Word.Done } ⌝ }
 {
     Count {
@@ -510,14 +510,14 @@ fn counted(d: Ends, i: u32, h: Hearing) -> Count
     }
 }
 
-fn keep_count(ends: &mut [u32; 3], c: Count)
+pub fn keep_count(ends: &mut [u32; 3], c: Count)
     ensures { λ _. ⌜ endsIs (now (ends .exit)) ≡ endsOf (c .ends) ⌝ }
 {
     let e = c.ends;
     keep(ends, e);
 }
 
-fn count_at(cells: &mut [u32], c: Count)
+pub fn count_at(cells: &mut [u32], c: Count)
     requires { ⌜ (isUnheard (c .hearing) ≡ false → width * (c .at) + width ≤ length (now cells)) × HearingFits (c .hearing) ⌝ }
     ensures { λ _. ⌜ now (cells .exit) ≡ countedAt (now (cells .entry)) c ⌝ }
 {
@@ -529,7 +529,7 @@ fn count_at(cells: &mut [u32], c: Count)
     count_in(cells, c.at, h);
 }
 
-fn answered(c: Count) -> Answer
+pub fn answered(c: Count) -> Answer
     ensures { λ r. ⌜ r ≡ c .answer ⌝ }
 {
     c.answer
@@ -575,7 +575,7 @@ pub fn position(
 
 // ---- judging
 
-fn heard_in(row: Row) -> Heard
+pub fn heard_in(row: Row) -> Heard
     ensures { λ r. ⌜ r ≡ row .part .heard ⌝ }
 {
     let part = row.part;
@@ -589,7 +589,7 @@ fn heard_at(rows: &[Row], l: Look) -> Heard
     heard_in(rows::found(rows, l))
 }
 
-fn judged_part(row: Row, j: Judgment) -> Row
+pub fn judged_part(row: Row, j: Judgment) -> Row
     ensures { λ r. ⌜ r ≡ judgedRow row j ⌝ }
 {
     let part = row.part;
@@ -604,7 +604,7 @@ fn judged_part(row: Row, j: Judgment) -> Row
     )
 }
 
-fn judged(j: Judgment) -> Answer
+pub fn judged(j: Judgment) -> Answer
     ensures { λ r. ⌜ r ≡ saying (Word.Judged j) ⌝ }
 {
     say(Word::Judged(j))
@@ -643,7 +643,7 @@ pub fn judging(
 
 // ---- check
 
-fn check_answer(row: Row) -> Answer
+pub fn check_answer(row: Row) -> Answer
     ensures { λ r. ⌜ r ≡ checkAnswer (row .part .verdict) ⌝ }
 {
     let part = row.part;
@@ -676,7 +676,7 @@ pub fn check(rows: &mut [Row], cells: &mut [u32], ends: &mut [u32; 3], key: Key)
 
 // ---- take-out and drop-oldest
 
-fn freed_row(row: Row) -> Answer
+pub fn freed_row(row: Row) -> Answer
     ensures { λ r. ⌜ r ≡ freeing (row .key) ⌝ }
 {
     let k = row.key;
@@ -710,7 +710,7 @@ pub fn take_out(rows: &mut [Row], cells: &mut [u32], ends: &mut [u32; 3], key: K
 }
 
 // The least recently used row, if questions 1 and 2 are answered yes and a row is used.
-fn oldest_of(l: Look, e: Ends) -> Look
+pub fn oldest_of(l: Look, e: Ends) -> Look
     ensures { λ r. ⌜ r ≡ oldestLook l e ⌝ }
 {
     let bad = rows::unfit(l);

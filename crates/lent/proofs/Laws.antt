@@ -1,0 +1,215 @@
+-- One law for each way out of a function over the lent words: the equations of its calls, put together, are the step on the rows. Facts on lists of
+-- rows alone; the laws of the calls themselves are crate `watch`'s.
+use mathlib.Core.Path.{_≡_, refl, sym, ap, ap₂, _∙_, subst}
+use Prim.Native.Nat.{ℕ, _<_}
+use mathlib.Core.Bool.{Bool, true, false, not}
+use mathlib.Core.List.{List, []}
+use lib.Dec.{eqb}
+use lib.ListN.{length, getD, set}
+use borrow.Author.Tests.{not-true, not-false}
+use Rattle.table.specs.Rows.{NONE}
+use Rattle.table.proofs.Tests.{clash}
+use Rattle.sites.specs.declared.Claimed.{Claimed}
+use Rattle.receiver.specs.Heard.{siteFits}
+use Rattle.receiver.specs.declared.Part.{Part}
+use Rattle.receiver.specs.declared.Heard.{Heard}
+use Rattle.receiver.specs.declared.Claiming.{Claiming}
+use Rattle.receiver.specs.declared.Hearing.{Hearing}
+use Rattle.near_field.specs.declared.Judgment.{Judgment}
+use Rattle.rows.specs.declared.Key.{Key}
+use Rattle.rows.specs.declared.Row.{Row}
+use Rattle.rows.specs.declared.Ends.{Ends}
+use Rattle.rows.specs.declared.Cursor.{Cursor}
+use Rattle.rows.specs.declared.Seat.{Seat}
+use Rattle.rows.specs.declared.Look.{Look}
+use Rattle.rows.specs.Links.{blank, unmade, withNext, withPrev, withLinks, withPart, madeRow, withFree, nexted, preved, outEnds, unlinkedRows, unlinkedEnds, linkedRows, linkedEnds, releasedRows, releasedEnds, touchedRows, touchedEnds, markedRows, markedEnds, partedRows, takenRows, takenEnds, roomRows, roomEnds, enteredRows, enteredEnds, keptSeat, madeSeat, seatOf, seatedRows}
+use Rattle.rows.specs.declared.Look.the-variants as L
+use Rattle.rows.specs.Read.{Looked}
+use Rattle.rows.specs.Search.{sizesOf, moreOf, stepOf, scanned, startOf, lookOf, isNo, isUnfit, atOf, numberOf}
+use Rattle.rows.proofs.Looks.{looks, looks-not}
+use Rattle.rows.proofs.Scans.{goes-on, stops}
+use Rattle.rows.proofs.Tables.{room-no, room-yes, seat-made, seat-kept}
+use Rattle.watch.specs.declared.Word.the-variants as Wd
+use Rattle.watch.specs.declared.Answer.{Answer}
+use Rattle.watch.specs.declared.Move.{Move}
+use Rattle.watch.specs.declared.Count.{Count}
+use Rattle.watch.specs.Answers.{noKey, saying, freeing}
+use Rattle.watch.specs.Moves.{staying, seatMove, ClaimedRow, by-look, judgedRow, judgedAs, judgedRows, removeMove, removedRows}
+use Rattle.watch.proofs.Entries.{judge-none, judge-kept, remove-none, remove-kept}
+use Rattle.lent.specs.Refusal.{isRefusal, Untouched}
+
+-- STEPS ON THE CHAINS
+pub unlink-ends : (xs : List Row) (e r : Ends) (i p n : ℕ) (row : Row) → row ≡ getD xs i blank → p ≡ row .prev → n ≡ row .next → r ≡ outEnds e p n → r ≡ unlinkedEnds xs e i
+unlink-ends xs e r i p n row a b c d = d ∙ ap₂ {C = Ends} (λ x y. outEnds e x y) (b ∙ ap (λ (z : Row). z .prev) a) (c ∙ ap (λ (z : Row). z .next) a)
+
+pub unlink-rows : (xs ys zs : List Row) (i p n : ℕ) (row : Row) → row ≡ getD xs i blank → p ≡ row .prev → n ≡ row .next → ys ≡ nexted xs p n → zs ≡ preved ys n p → zs ≡ unlinkedRows xs i
+unlink-rows xs ys zs i p n row a b c d f =
+    f ∙ ap (λ (z : List Row). preved z n p) d ∙ ap₂ {C = List Row} (λ x y. preved (nexted xs x y) y x) (b ∙ ap (λ (z : Row). z .prev) a) (c ∙ ap (λ (z : Row). z .next) a)
+
+pub link-rows : (xs ys zs : List Row) (e : Ends) (i t n : ℕ) (row x : Row) → t ≡ e .tail → row ≡ getD xs i blank → n ≡ NONE → x ≡ withLinks row t n → ys ≡ set xs i x → zs ≡ nexted ys t i → zs ≡ linkedRows xs e i
+link-rows xs ys zs e i t n row x a b c d f g =
+    let y : x ≡ withLinks (getD xs i blank) (e .tail) NONE = d ∙ ap₂ {C = Row} (λ u v. withLinks u v n) b a ∙ ap (withLinks (getD xs i blank) (e .tail)) c in
+    g ∙ ap₂ {C = List Row} (λ u v. nexted u v i) (f ∙ ap (set xs i) y) a
+
+pub release-ends : (xs : List Row) (e d r : Ends) (i : ℕ) → d ≡ unlinkedEnds xs e i → r ≡ withFree d i → r ≡ releasedEnds xs e i
+release-ends xs e d r i a b = b ∙ ap (λ (x : Ends). withFree x i) a
+
+pub release-rows : (xs ys zs : List Row) (e : Ends) (i f : ℕ) (x : Row) → ys ≡ unlinkedRows xs i → f ≡ e .free → x ≡ unmade f → zs ≡ set ys i x → zs ≡ releasedRows xs e i
+release-rows xs ys zs e i f x a b c d = d ∙ ap₂ {C = List Row} (λ u v. set u i v) a (c ∙ ap unmade b)
+
+pub touch-ends : (xs : List Row) (e d r : Ends) (i : ℕ) → d ≡ unlinkedEnds xs e i → r ≡ linkedEnds d i → r ≡ touchedEnds xs e i
+touch-ends xs e d r i a b = b ∙ ap (λ (x : Ends). linkedEnds x i) a
+
+pub touch-rows : (xs ys zs : List Row) (e d : Ends) (i : ℕ) → d ≡ unlinkedEnds xs e i → ys ≡ unlinkedRows xs i → zs ≡ linkedRows ys d i → zs ≡ touchedRows xs e i
+touch-rows xs ys zs e d i a b c = c ∙ ap₂ {C = List Row} (λ u v. linkedRows u v i) b a
+
+parted : (xs ys : List Row) (i : ℕ) (p : Part) (row x : Row) → row ≡ getD xs i blank → x ≡ withPart row p → ys ≡ set xs i x → ys ≡ partedRows xs i p
+parted xs ys i p row x a b c = c ∙ ap (set xs i) (b ∙ ap (λ (u : Row). withPart u p) a)
+
+pub mark-ends : (xs ys : List Row) (e r : Ends) (i : ℕ) (p : Part) (row x : Row) → row ≡ getD xs i blank → x ≡ withPart row p → ys ≡ set xs i x → r ≡ touchedEnds ys e i → r ≡ markedEnds xs e i p
+mark-ends xs ys e r i p row x a b c d = d ∙ ap (λ (u : List Row). touchedEnds u e i) (parted xs ys i p row x a b c)
+
+pub mark-rows : (xs ys zs : List Row) (e : Ends) (i : ℕ) (p : Part) (row x : Row) → row ≡ getD xs i blank → x ≡ withPart row p → ys ≡ set xs i x → zs ≡ touchedRows ys e i → zs ≡ markedRows xs e i p
+mark-rows xs ys zs e i p row x a b c d = d ∙ ap (λ (u : List Row). touchedRows u e i) (parted xs ys i p row x a b c)
+
+pub take-ends : (xs : List Row) (e d r : Ends) (i n : ℕ) (old : Row) → i ≡ e .free → old ≡ getD xs i blank → n ≡ old .next → d ≡ withFree e n → r ≡ linkedEnds d i → r ≡ takenEnds xs e
+take-ends xs e d r i n old a b c f g =
+    g ∙ ap (λ (u : Ends). linkedEnds u i) (f ∙ ap (withFree e) (c ∙ ap (λ (u : Row). u .next) b)) ∙ ap (λ (j : ℕ). linkedEnds (withFree e (getD xs j blank .next)) j) a
+
+pub take-rows : (xs ys zs : List Row) (e d : Ends) (k : Key) (p : Part) (i n : ℕ) (old x : Row) → i ≡ e .free → old ≡ getD xs i blank → x ≡ madeRow old k p → ys ≡ set xs i x → n ≡ old .next → d ≡ withFree e n → zs ≡ linkedRows ys d i → zs ≡ takenRows xs e k p
+take-rows xs ys zs e d k p i n old x a b c f g h m =
+    m ∙ ap₂ {C = List Row} (λ u v. linkedRows u v i) (f ∙ ap (set xs i) (c ∙ ap (λ (u : Row). madeRow u k p) b)) (h ∙ ap (withFree e) (g ∙ ap (λ (u : Row). u .next) b))
+    ∙ ap (λ (j : ℕ). linkedRows (set xs j (madeRow (getD xs j blank) k p)) (withFree e (getD xs j blank .next)) j) a
+
+pub enter-ends : (xs ys : List Row) (e d r : Ends) → d ≡ roomEnds xs e → ys ≡ roomRows xs e → r ≡ takenEnds ys d → r ≡ enteredEnds xs e
+enter-ends xs ys e d r a b c = c ∙ ap₂ {C = Ends} (λ u v. takenEnds u v) b a
+
+pub enter-rows : (xs ys zs : List Row) (e d : Ends) (k : Key) (p : Part) → d ≡ roomEnds xs e → ys ≡ roomRows xs e → zs ≡ takenRows ys d k p → zs ≡ enteredRows xs e k p
+enter-rows xs ys zs e d k p a b c = c ∙ ap₂ {C = List Row} (λ u v. takenRows u v k p) b a
+
+-- what a test came to, of what it tests
+pub test-is : (t s b : Bool) → t ≡ s → t ≡ b → s ≡ b
+test-is t s b p q = sym p ∙ q
+
+-- THE SCAN
+module _ (ys : List Row) (s c : Cursor) (n : ℕ) (t : Bool) (long : n ≡ length ys) (test : t ≡ moreOf c n) where
+  more-is : (b : Bool) → t ≡ b → moreOf c (length ys) ≡ b
+  more-is b h = ap (moreOf c) (sym long) ∙ sym test ∙ h
+
+  module _ (h : t ≡ true) (at : ℕ) (row : Row) (d : Cursor) (a : at ≡ c .at) (r : row ≡ getD ys at blank) (e : d ≡ stepOf c row) where
+    next-is : d ≡ stepOf c (getD ys (c .at) blank)
+    next-is = e ∙ ap (stepOf c) (r ∙ ap (λ (i : ℕ). getD ys i blank) a)
+
+    pub scan-goes : scanned ys c ≡ scanned ys s → scanned ys d ≡ scanned ys s
+    scan-goes q = ap (scanned ys) next-is ∙ sym (goes-on ys c (more-is true h) .same) ∙ q
+
+    pub scan-less : d .left < c .left
+    scan-less = subst (λ (x : Cursor). x .left < c .left) (sym next-is) (goes-on ys c (more-is true h) .less)
+
+  pub scan-ends : t ≡ false → scanned ys c ≡ scanned ys s → c ≡ scanned ys s
+  scan-ends h q = sym (stops ys c (more-is false h)) ∙ q
+
+-- QUESTIONS 1 TO 3
+pub look-not : (xs : List Row) (m n : ℕ) (e : Ends) (k : Key) (t u : Bool) (r : Look) → n ≡ length xs → t ≡ sizesOf n m → u ≡ not t → u ≡ true → r ≡ L.No 1 → Looked xs m e k r
+look-not xs m n e k t u r long a b c d = looks-not xs m e k t r (a ∙ ap (λ (j : ℕ). sizesOf j m) long) (not-true t (sym b ∙ c)) d
+
+pub look-fits : (xs : List Row) (m n : ℕ) (e : Ends) (k : Key) (t u : Bool) (s z a b : Cursor) (r : Look) → n ≡ length xs → t ≡ sizesOf n m → u ≡ not t → u ≡ false → s ≡ startOf n (e .head) true k → a ≡ scanned xs s → z ≡ startOf n (e .free) false k → b ≡ scanned xs z → r ≡ lookOf n (e .tail) a b → Looked xs m e k r
+look-fits xs m n e k t u s z a b r long p q c s-is a-is z-is b-is d =
+    looks xs m e k t a b r (p ∙ ap (λ (j : ℕ). sizesOf j m) long) (not-false t (sym q ∙ c)) (a-is ∙ ap (scanned xs) (s-is ∙ ap (λ (j : ℕ). startOf j (e .head) true k) long)) (b-is ∙ ap (scanned xs) (z-is ∙ ap (λ (j : ℕ). startOf j (e .free) false k) long)) (d ∙ ap (λ (j : ℕ). lookOf j (e .tail) a b) long)
+
+-- REFUSED, NO WORD CHANGES
+pub same-words : (a : Answer) (l : List ℕ) → Untouched a l l
+unfolding Untouched
+same-words a l h = refl
+
+accepted : (a : Answer) (l m : List ℕ) → isRefusal a ≡ false → Untouched a l m
+unfolding Untouched
+accepted a l m f h = clash h f
+
+pub words-of : (r a : Answer) (l m : List ℕ) → r ≡ a → Untouched a l m → Untouched r l m
+words-of r a l m e u = subst (λ (x : Answer). Untouched x l m) (sym e) u
+
+pub freed-words : (m : Move) (e : Ends) (z : Look) (a : Answer) (row : Row) (l n : List ℕ) → a ≡ freeing (row .key) → m ≡ record { ends = e; clear = z; answer = a } → Untouched (m .answer) l n
+freed-words m e z a row l n p q = accepted (m .answer) l n (ap (λ (x : Move). isRefusal (x .answer)) q ∙ ap isRefusal p)
+
+pub seated-words : (m : Move) (s : Seat) (c : Claiming) (l n : List ℕ) → m ≡ seatMove s c → Untouched (m .answer) l n
+seated-words m s c l n q = accepted (m .answer) l n (ap (λ (x : Move). isRefusal (x .answer)) q)
+
+pub counted-words : (c : Count) (d : Ends) (i : ℕ) (h : Hearing) (l n : List ℕ) → c ≡ record { ends = d; at = i; hearing = h; answer = saying Wd.Done } → Untouched (c .answer) l n
+counted-words c d i h l n q = accepted (c .answer) l n (ap (λ (x : Count). isRefusal (x .answer)) q)
+
+pub judged-words : (r : Answer) (j : Judgment) (l n : List ℕ) → r ≡ saying (Wd.Judged j) → Untouched r l n
+judged-words r j l n q = accepted r l n (ap isRefusal q)
+
+pub done-words : (r : Answer) (l n : List ℕ) → r ≡ saying Wd.Done → Untouched r l n
+done-words r l n q = accepted r l n (ap isRefusal q)
+
+-- WHAT THE NEXT CALL ASKS: the site that is held is within degrees
+pub site-fits : (s t : Bool) (xs : List Row) (i : ℕ) (row : Row) → (s ≡ false → siteFits (getD xs i blank .part .heard .site) ≡ true) → t ≡ s → t ≡ false → row ≡ getD xs i blank → siteFits (row .part .heard .site) ≡ true
+site-fits s t xs i row f p q e = ap (λ (x : Row). siteFits (x .part .heard .site)) e ∙ f (sym p ∙ q)
+
+pub claim-unfit : (xs : List Row) (e : Ends) (l : Look) (k : Key) (site : Claimed) (m : Move) (t : Bool) → t ≡ isUnfit l → t ≡ true → m ≡ staying e (saying (Wd.Refused (numberOf l))) → ClaimedRow xs e l k site m xs
+claim-unfit xs e l k site m t p q d = by-look (sym p ∙ q) d refl
+
+-- THE ROW THAT WAS FOUND
+pub found-is : (xs : List Row) (i j : ℕ) (r : Row) → i ≡ j → r ≡ getD xs i blank → r ≡ getD xs j blank
+found-is xs i j r e h = h ∙ ap (λ (k : ℕ). getD xs k blank) e
+
+pub heard-is : (xs : List Row) (i : ℕ) (r : Row) (h : Heard) → r ≡ getD xs i blank → h ≡ r .part .heard → h ≡ getD xs i blank .part .heard
+heard-is xs i r h e q = q ∙ ap (λ (x : Row). x .part .heard) e
+
+-- A ROW FOR A KEY: one part each of the ways out of crate `rows`
+module _ (xs : List Row) (e : Ends) (t : Bool) (test : t ≡ not (eqb (e .free) NONE)) where
+  pub room-there-ends : (r : Ends) → t ≡ true → r ≡ e → r ≡ roomEnds xs e
+  room-there-ends r h d = room-no xs e r (sym test ∙ h) d .0
+
+  pub room-there-rows : t ≡ true → xs ≡ roomRows xs e
+  room-there-rows h = room-no xs e e (sym test ∙ h) refl .1
+
+  pub room-made-ends : (i : ℕ) (r : Ends) → t ≡ false → i ≡ e .head → r ≡ releasedEnds xs e i → r ≡ roomEnds xs e
+  room-made-ends i r h q d = room-yes xs e i r (releasedRows xs e i) (sym test ∙ h) q (d, refl) .0
+
+  pub room-made-rows : (i : ℕ) (zs : List Row) → t ≡ false → i ≡ e .head → zs ≡ releasedRows xs e i → zs ≡ roomRows xs e
+  room-made-rows i zs h q d = room-yes xs e i (releasedEnds xs e i) zs (sym test ∙ h) q (refl, d) .1
+
+module _ (xs : List Row) (e : Ends) (l : Look) (p : Part) (t : Bool) (test : t ≡ isNo l) where
+  pub made-seat-is : (i : ℕ) (old : Row) (d : Ends) (r : Seat) → t ≡ true → i ≡ e .head → old ≡ getD xs i blank → d ≡ enteredEnds xs e → r ≡ madeSeat e old d → r ≡ seatOf xs e l p
+  made-seat-is i old d r h j a b c = seat-made xs e l noKey p old d (enteredRows xs e noKey p) r (sym test ∙ h) (found-is xs i (e .head) old j a) (b, refl) c .0
+
+  pub made-rows-are : (k : Key) (zs : List Row) → t ≡ true → zs ≡ enteredRows xs e k p → zs ≡ seatedRows xs e l k p
+  made-rows-are k zs h a = seat-made xs e l k p (getD xs (e .head) blank) (enteredEnds xs e) zs (madeSeat e (getD xs (e .head) blank) (enteredEnds xs e)) (sym test ∙ h) refl (refl, a) refl .1
+
+  pub kept-seat-is : (i : ℕ) (d : Ends) (r : Seat) → t ≡ false → i ≡ atOf l → d ≡ markedEnds xs e i p → r ≡ keptSeat d i → r ≡ seatOf xs e l p
+  kept-seat-is i d r h j a b = seat-kept xs e l noKey p i d (markedRows xs e i p) r (sym test ∙ h) j (a, refl) b .0
+
+  pub kept-rows-are : (k : Key) (i : ℕ) (zs : List Row) → t ≡ false → i ≡ atOf l → zs ≡ markedRows xs e i p → zs ≡ seatedRows xs e l k p
+  kept-rows-are k i zs h j a = seat-kept xs e l k p i (markedEnds xs e i p) zs (keptSeat (markedEnds xs e i p) i) (sym test ∙ h) j (refl, a) refl .1
+
+-- JUDGING, TAKE-OUT, DROP-OLDEST: one part each of the ways out of crate `watch`
+module _ (l : Look) (j : Judgment) (t : Bool) (test : t ≡ isNo l) where
+  pub unjudged-answer : (r : Answer) → t ≡ true → r ≡ saying (Wd.Refused (numberOf l)) → r ≡ judgedAs l j
+  unjudged-answer r h a = judge-none [] l j r (sym test ∙ h) a .0
+
+  pub unjudged-rows : (xs : List Row) → t ≡ true → xs ≡ judgedRows xs l j
+  unjudged-rows xs h = judge-none xs l j (saying (Wd.Refused (numberOf l))) (sym test ∙ h) refl .1
+
+  pub judged-answer : (r : Answer) → t ≡ false → r ≡ saying (Wd.Judged j) → r ≡ judgedAs l j
+  judged-answer r h a = judge-kept [] l j (atOf l) blank (judgedRow blank j) [] r (sym test ∙ h) refl refl refl refl a .0
+
+  pub judged-rows : (xs : List Row) (i : ℕ) (row x : Row) (zs : List Row) → t ≡ false → i ≡ atOf l → row ≡ getD xs i blank → x ≡ judgedRow row j → zs ≡ set xs i x → zs ≡ judgedRows xs l j
+  judged-rows xs i row x zs h a b c d = judge-kept xs l j i row x zs (saying (Wd.Judged j)) (sym test ∙ h) a b c d refl .1
+
+module _ (xs : List Row) (e : Ends) (l : Look) (t : Bool) (test : t ≡ isNo l) where
+  pub unremoved-move : (m : Move) → t ≡ true → m ≡ staying e (saying (Wd.Refused (numberOf l))) → m ≡ removeMove xs e l
+  unremoved-move m h a = remove-none xs e l m (sym test ∙ h) a .0
+
+  pub unremoved-rows : t ≡ true → xs ≡ removedRows xs e l
+  unremoved-rows h = remove-none xs e l (staying e (saying (Wd.Refused (numberOf l)))) (sym test ∙ h) refl .1
+
+  pub removed-move : (i : ℕ) (row : Row) (d : Ends) (a : Answer) (m : Move) → t ≡ false → i ≡ atOf l → row ≡ getD xs i blank → d ≡ releasedEnds xs e i → a ≡ freeing (row .key) → m ≡ record { ends = d; clear = l; answer = a } → m ≡ removeMove xs e l
+  removed-move i row d a m h p q u v w = remove-kept xs e l i row d (releasedRows xs e i) a m (sym test ∙ h) p q (u, refl) v w .0
+
+  pub removed-rows : (i : ℕ) (zs : List Row) → t ≡ false → i ≡ atOf l → zs ≡ releasedRows xs e i → zs ≡ removedRows xs e l
+  removed-rows i zs h p u =
+      let row = getD xs i blank in
+      remove-kept xs e l i row (releasedEnds xs e i) zs (freeing (row .key)) (record { ends = releasedEnds xs e i; clear = l; answer = freeing (row .key) }) (sym test ∙ h) p refl (refl, u) refl refl .1

@@ -1,0 +1,46 @@
+-- `lent::link_last` meets its contract: each way out is a law that is cited below, at what the calls came to.
+use Rattle.lent.proofs.Laws.{link-rows}
+use borrow.Author.Needs.{needs}
+use Rattle.lent.proofs.link_last.Statement.{statement}
+use Rattle.lent.proofs.link_last.Tie as tie
+
+tail-of-requires : tie.Need-tail-of-requires
+tail-of-requires c κs = search needs
+
+get-requires : tie.Need-get-requires
+get-requires c κs = search needs
+
+no-row-requires : tie.Need-no-row-requires
+no-row-requires c κs = search needs
+
+with-links-requires : tie.Need-with-links-requires
+with-links-requires c κs = search needs
+
+put-requires : tie.Need-put-requires
+put-requires c κs = search needs
+
+set-next-requires : tie.Need-set-next-requires
+set-next-requires c κs = search needs
+
+linked-ends-requires : tie.Need-linked-ends-requires
+linked-ends-requires c κs = search needs
+
+same-length : tie.Need-same-length
+same-length c = search needs
+
+returns : tie.Need-returns
+returns c = (search needs, search (link-rows, needs))
+
+pub link-last-spec : {M : Type 1} → statement M
+link-last-spec =
+    tie.close
+    (tie.spec
+    tail-of-requires
+    get-requires
+    no-row-requires
+    with-links-requires
+    put-requires
+    set-next-requires
+    linked-ends-requires
+    same-length
+    returns)

@@ -1,0 +1,42 @@
+-- `lent::unlink` meets its contract: each way out is a law that is cited below, at what the calls came to.
+use Rattle.lent.proofs.Laws.{unlink-ends, unlink-rows}
+use borrow.Author.Needs.{needs}
+use Rattle.lent.proofs.unlink.Statement.{statement}
+use Rattle.lent.proofs.unlink.Tie as tie
+
+get-requires : tie.Need-get-requires
+get-requires c κs = search needs
+
+prev-of-requires : tie.Need-prev-of-requires
+prev-of-requires c κs = search needs
+
+next-of-requires : tie.Need-next-of-requires
+next-of-requires c κs = search needs
+
+set-next-requires : tie.Need-set-next-requires
+set-next-requires c κs = search needs
+
+set-prev-requires : tie.Need-set-prev-requires
+set-prev-requires c κs = search needs
+
+out-ends-requires : tie.Need-out-ends-requires
+out-ends-requires c κs = search needs
+
+same-length : tie.Need-same-length
+same-length c = search needs
+
+returns : tie.Need-returns
+returns c = (search (unlink-ends, needs), search (unlink-rows, needs))
+
+pub unlink-spec : {M : Type 1} → statement M
+unlink-spec =
+    tie.close
+    (tie.spec
+    get-requires
+    prev-of-requires
+    next-of-requires
+    set-next-requires
+    set-prev-requires
+    out-ends-requires
+    same-length
+    returns)
