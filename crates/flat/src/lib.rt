@@ -153,7 +153,7 @@ fn word(b0: u8, b1: u8, b2: u8, b3: u8, b4: u8, b5: u8, b6: u8, b7: u8) -> u64
 }
 
 // A key's eight bytes from the i-th on.
-fn key_word(key: [u8; 32], i: usize) -> u64
+pub fn key_word(key: [u8; 32], i: usize) -> u64
     requires { ⌜ i + 8 ≤ 32 ⌝ }
     ensures { λ r. ⌜ (r ≡ wordOf (eight key i)) × (Bytes (eight key i) × (length key ≡ 32)) ⌝ }
 {

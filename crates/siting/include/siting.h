@@ -1,7 +1,8 @@
-/* The siting watch for C and Rust: link libsiting.a. Both functions are total: any bits may be passed, nothing is kept between calls. */
+/* The siting watch for C and Rust: link libsiting.a. Every function is total: any bits may be passed, nothing is kept between calls. */
 #ifndef SITING_H
 #define SITING_H
 
+#include <stddef.h>
 #include <stdint.h>
 
 #ifdef __cplusplus
@@ -18,6 +19,30 @@ uint16_t siting_place(double site_lat, double site_lon, double lat, double lon);
 
 /* What siting_place answers where a degree is not finite, a latitude not from −90 to 90, or a longitude not from −180 to 180. */
 #define SITING_NO_DEGREES 65535
+
+/* The seven calls over a watch that the caller lends: rows of 23 numbers each (rows_len is 23 times the receivers), 3,344 cells for each row, and the
+   row numbers of the first used, the last used and the first free row (4294967295 for none). They need not be in order: what is no watch is refused
+   with 1 or 2. A call answers in nine numbers:
+     answer[0]  0 refused, 1 a generation (claim), 2 a judgment, 3 a state (check), 4 the key freed, 5 accepted
+     answer[1]  the number of the question that was answered no; the generation; or 0 unjudged, 1 fits, 2 wrong
+     answer[2]  the distance in km, if wrong
+     answer[3]  the evidence of a judgment: 1 horizon, 2 near field, 3 nothing near
+     answer[4]  1 where a claim pushed a key out
+     answer[5] to answer[8]  the key pushed out or freed, four little-endian words of eight bytes
+   A refusal changes nothing that was lent but the answer. A tag (site, alt, has_feet) of 0 says that the number behind it is none. */
+#define SITING_ROW_WORDS 23
+#define SITING_ROW_CELLS 3344
+
+void siting_fresh(uint64_t *rows, size_t rows_len, uint32_t *cells, size_t cells_len, uint32_t ends[3], uint64_t answer[9]);
+void siting_claim(uint64_t *rows, size_t rows_len, uint32_t *cells, size_t cells_len, uint32_t ends[3], uint64_t answer[9], const uint64_t key[4],
+                  uint8_t site, double lat, double lon, uint8_t alt, int32_t alt_m);
+void siting_position(uint64_t *rows, size_t rows_len, uint32_t *cells, size_t cells_len, uint32_t ends[3], uint64_t answer[9], const uint64_t key[4],
+                     double lat, double lon, uint8_t has_feet, int32_t feet, uint32_t address, uint64_t at_ms);
+void siting_judging(uint64_t *rows, size_t rows_len, uint32_t *cells, size_t cells_len, uint32_t ends[3], uint64_t answer[9], const uint64_t key[4],
+                    uint64_t now_ms, uint64_t aircraft);
+void siting_check(uint64_t *rows, size_t rows_len, uint32_t *cells, size_t cells_len, uint32_t ends[3], uint64_t answer[9], const uint64_t key[4]);
+void siting_take_out(uint64_t *rows, size_t rows_len, uint32_t *cells, size_t cells_len, uint32_t ends[3], uint64_t answer[9], const uint64_t key[4]);
+void siting_drop_oldest(uint64_t *rows, size_t rows_len, uint32_t *cells, size_t cells_len, uint32_t ends[3], uint64_t answer[9]);
 
 #ifdef __cplusplus
 }

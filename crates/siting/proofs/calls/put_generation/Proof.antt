@@ -1,0 +1,23 @@
+use Rattle.siting.proofs.Telling.{generation-pushed, generation-alone}
+use borrow.Author.Needs.{needs}
+use Rattle.siting.proofs.calls.put_generation.Statement.{statement}
+use Rattle.siting.proofs.calls.put_generation.Tie as tie
+use Rattle.siting.proofs.calls.put_generation.Reads as reads
+use Rattle.siting.proofs.calls.put_generation.Lts as lts
+use Rattle.siting.proofs.calls.put.Reads as put-reads
+use Rattle.siting.proofs.calls.put_keyed.Reads as put-keyed-reads
+
+put-keyed-requires : tie.Need-put-keyed-requires
+put-keyed-requires c κs = search needs
+
+put-requires : tie.Need-put-requires
+put-requires c κs = search needs
+
+returns : tie.Need-returns
+returns c = search (generation-pushed, needs)
+
+returns-2 : tie.Need-returns-2
+returns-2 c = search (generation-alone, needs)
+
+pub put-generation-spec : {M : Type 1} → statement M
+put-generation-spec = tie.close (tie.spec put-keyed-requires put-requires returns returns-2)

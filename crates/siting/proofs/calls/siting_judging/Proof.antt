@@ -1,0 +1,32 @@
+use Rattle.siting.proofs.Telling.{told-key}
+use borrow.Author.Needs.{needs}
+use Rattle.siting.proofs.calls.siting_judging.Statement.{statement}
+use Rattle.siting.proofs.calls.siting_judging.Tie as tie
+use Rattle.siting.proofs.calls.siting_judging.Reads as reads
+use Rattle.siting.proofs.calls.siting_judging.Lts as lts
+use Rattle.lent.proofs.judging.Reads as judging-reads
+use Rattle.siting.proofs.calls.key_by.Reads as key-by-reads
+use Rattle.siting.proofs.calls.tell.Reads as tell-reads
+
+key-by-requires : tie.Need-key-by-requires
+key-by-requires c κs = search needs
+
+judging-requires : tie.Need-judging-requires
+judging-requires c κs = search needs
+
+tell-requires : tie.Need-tell-requires
+tell-requires c κs = search needs
+
+same-length : tie.Need-same-length
+same-length c = search needs
+
+same-length-2 : tie.Need-same-length-2
+same-length-2 c = search needs
+
+returns : tie.Need-returns
+returns c = search (told-key, needs)
+
+pub siting-judging-spec : {M : Type 1} → statement M
+siting-judging-spec =
+    tie.close
+    (tie.spec key-by-requires judging-requires tell-requires same-length same-length-2 returns)
