@@ -1,16 +1,15 @@
 -- What a part's stores come to: its words, in a run. Each function's store is the last run, after those of the calls before it.
 use mathlib.Core.Path.{_≡_, refl, sym, ap, _∙_, subst}
-use Prim.Native.Nat.{ℕ, _+_, _*_, _≤_, _<_}
+use Prim.Native.Nat.{ℕ, _+_}
 use native.Mathlib.Omega.{arith}
-use mathlib.Core.Bool.{Bool, cond}
+use mathlib.Core.Bool.{cond}
 use mathlib.Core.List.{List, [], _∷_, _++_}
-use lib.Dec.{T}
-use lib.ListN.{length, set, length-append}
+use lib.ListN.{length, length-append}
 use lib.Seq.{sets}
+use lib.Ieee.{binary64, toBits}
 use lib.IntN.{ℤ}
-use lib.Ieee.{binary64, toBits, fits}
 use mir.Syntax.{w32}
-use mir.Val.{ofZ, SFits}
+use mir.Val.{ofZ}
 use Rattle.sites.specs.declared.Altitude.{Altitude}
 use Rattle.sites.specs.declared.Altitude.the-variants.{Metres, Unknown}
 use Rattle.sites.specs.declared.Site.{Site}
@@ -26,7 +25,6 @@ use Rattle.receiver.specs.declared.Judged.{Judged}
 use Rattle.receiver.specs.declared.Judged.the-variants.{With, Never}
 use Rattle.rows.specs.declared.Row.{Row}
 use Rattle.flat.specs.Words.{keyWords, altitudeWords, siteWords, idWords, lastWord, byWords, verdictWords, heardWords, closedOf}
-use Rattle.flat.specs.Ranges.{AltitudeIn, SiteIn, IdIn, ByIn, RunIn, VerdictIn}
 use Rattle.flat.proofs.Runs.{runs3, runs4, over-all}
 use Rattle.flat.proofs.Keys.{key-words}
 
@@ -69,64 +67,17 @@ row-words r =
     length-append k (h ++ (v ++ z)) ∙ omega (arith, key-words (r .key), length-append h (v ++ z), heard-words (r .part .heard), length-append v z, verdict-words (r .part .verdict))
 
 -- STORES
-module _ (l y : List ℕ) (i : ℕ) where
-  pub altitude-puts : (a : Altitude) (m : ℤ) (w : ℕ) → a ≡ Metres m → w ≡ ofZ w32 m → y ≡ sets l i (1 ∷ w ∷ []) → y ≡ sets l i (altitudeWords a)
-  unfolding altitudeWords
-  altitude-puts a m w e f g = rw e (rw f at g)
+-- a part's words and its range, of the case that was found
+module _ {X : Type 0} where
+  pub puts : (f : X → List ℕ) (l y ws : List ℕ) (i : ℕ) (x z : X) → x ≡ z → y ≡ sets l i ws → ws ≡ f z → y ≡ sets l i (f x)
+  puts f l y ws i x z e g h = g ∙ ap (sets l i) (h ∙ ap f (sym e))
 
-  pub altitude-puts-none : (a : Altitude) → a ≡ Unknown → y ≡ sets l i (0 ∷ 0 ∷ []) → y ≡ sets l i (altitudeWords a)
-  unfolding altitudeWords
-  altitude-puts-none a e g = rw e g
+  pub in-range : (P : X → Type 0) (x z : X) → x ≡ z → P z → P x
+  in-range P x z e h = subst P (sym e) h
 
-  pub id-puts : (a : EpochId) (n w : ℕ) → a ≡ Ids.Id n → w ≡ n → y ≡ sets l i (1 ∷ w ∷ []) → y ≡ sets l i (idWords a)
-  unfolding idWords
-  id-puts a n w e f g = rw e (rw f at g)
-
-  pub id-puts-none : (a : EpochId) → a ≡ Ids.Nothing → y ≡ sets l i (0 ∷ 0 ∷ []) → y ≡ sets l i (idWords a)
-  unfolding idWords
-  id-puts-none a e g = rw e g
-
-  pub by-puts : (a : WrongBy) (n w : ℕ) → a ≡ By.Km n → w ≡ n → y ≡ sets l i (1 ∷ w ∷ []) → y ≡ sets l i (byWords a)
-  unfolding byWords
-  by-puts a n w e f g = rw e (rw f at g)
-
-  pub by-puts-none : (a : WrongBy) → a ≡ By.Nothing → y ≡ sets l i (0 ∷ 0 ∷ []) → y ≡ sets l i (byWords a)
-  unfolding byWords
-  by-puts-none a e g = rw e g
-
-  pub verdict-puts : (a : Judged) (v : Verdict) → a ≡ With v → y ≡ sets l i (verdictWords (With v)) → y ≡ sets l i (verdictWords a)
-  verdict-puts a v e g = g ∙ ap (λ (j : Judged). sets l i (verdictWords j)) (sym e)
-
--- the ranges, of the case that was found
-pub altitude-in : (a : Altitude) (m : ℤ) → a ≡ Metres m → SFits w32 m → AltitudeIn a
-altitude-in a m e h = rw e h
-
-pub altitude-in-none : (a : Altitude) → a ≡ Unknown → AltitudeIn a
-altitude-in-none a e = rw e tt
-
-pub id-in : (a : EpochId) (n : ℕ) → a ≡ Ids.Id n → IdIn (Ids.Id n) → IdIn a
-id-in a n e h = rw e h
-
-pub id-in-none : (a : EpochId) → a ≡ Ids.Nothing → IdIn a
-id-in-none a e = rw e tt
-
-pub by-in : (a : WrongBy) (n : ℕ) → a ≡ By.Km n → ByIn (By.Km n) → ByIn a
-by-in a n e h = rw e h
-
-pub by-in-none : (a : WrongBy) → a ≡ By.Nothing → ByIn a
-by-in-none a e = rw e tt
-
-pub verdict-in : (a : Judged) (v : Verdict) → a ≡ With v → RunIn v → VerdictIn a
-verdict-in a v e h = rw e h
-
-pub verdict-in-none : (a : Judged) → a ≡ Never → VerdictIn a
-verdict-in-none a e = rw e tt
-
-pub site-in : (c : Claimed) (s : Site) → c ≡ At s → T (fits binary64 (s .lat)) → T (fits binary64 (s .lon)) → AltitudeIn (s .«alt_m») → SiteIn c
-site-in c s e a b h = rw e (a, (b, h))
-
-pub site-in-none : (c : Claimed) → c ≡ Nowhere → SiteIn c
-site-in-none c e = rw e tt
+pub metres-words : (m : ℤ) (w : ℕ) → w ≡ ofZ w32 m → 1 ∷ w ∷ [] ≡ altitudeWords (Metres m)
+unfolding altitudeWords
+metres-words m w e = ap (λ (n : ℕ). 1 ∷ n ∷ []) e
 
 pub site-puts : (l x y z : List ℕ) (i p q : ℕ) (c : Claimed) (s : Site) → c ≡ At s → p ≡ toBits binary64 (s .lat) → q ≡ toBits binary64 (s .lon)
     → x ≡ sets l i (1 ∷ []) → y ≡ sets x (i + 1) (p ∷ q ∷ []) → z ≡ sets y (i + 3) (altitudeWords (s .«alt_m»)) → z ≡ sets l i (siteWords c)

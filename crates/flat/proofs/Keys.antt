@@ -1,6 +1,6 @@
 -- A key's 32 bytes as four words and back: eight bytes are one word of little-endian digits to the base 256.
 use mathlib.Core.Path.{_≡_, refl, sym, ap, _∙_, subst}
-use Prim.Native.Nat.{ℕ, zero, suc, _+_, _*_, _/_, _%_, _≤_, _<_}
+use Prim.Native.Nat.{ℕ, zero, suc, _+_, _*_, _/_, _%_, _≤_}
 use native.Mathlib.Omega.{arith}
 use native.Mathlib.Nat.{mod-eq-of-lt, add-mul-mod-self-left}
 use mathlib.Core.List.{List, [], _∷_, _++_}
@@ -8,7 +8,7 @@ use lib.ListN.{length, getD, set, take, drop, length-append, length-take, length
 use lib.Seq.{sets, drop-cons, take-all, drop-drop}
 use Rattle.flat.specs.Words.{wordOf, bytesOf, eight, keyWords, keyOf}
 use Rattle.flat.specs.Ranges.{Bytes, KeyIn}
-use Rattle.flat.proofs.Runs.{after, runs2, runs4, over-all}
+use Rattle.flat.proofs.Runs.{runs4, over-all}
 
 -- EIGHT BYTES
 -- n elements from the i-th on

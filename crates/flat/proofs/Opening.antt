@@ -5,7 +5,7 @@ use Prim.Native.Nat.{ℕ, _+_, _%_, _≤_, _<_}
 use native.Mathlib.Omega.{arith}
 use mathlib.Core.Bool.{Bool, true, false, cond, not, _&&_}
 use mathlib.Core.List.{List}
-use borrow.Author.Tests.{eq-eqb, ne-eqb}
+use borrow.Author.Tests.{ne-eqb}
 use lib.Dec.{eqb, leb}
 use lib.ListN.{getD, drop}
 use lib.IntN.{ℤ}
@@ -13,9 +13,9 @@ use lib.Ieee.{Float, binary64, ofBits}
 use mir.Syntax.{w32}
 use mir.Val.{toZ}
 use Rattle.sites.specs.declared.Altitude.{Altitude}
-use Rattle.sites.specs.declared.Altitude.the-variants.{Metres, Unknown}
+use Rattle.sites.specs.declared.Altitude.the-variants.{Metres}
 use Rattle.sites.specs.declared.Claimed.{Claimed}
-use Rattle.sites.specs.declared.Claimed.the-variants.{At, Nowhere}
+use Rattle.sites.specs.declared.Claimed.the-variants.{At}
 use Rattle.view.specs.declared.EpochId.{EpochId}
 use Rattle.view.specs.declared.EpochId.the-variants as Ids
 use Rattle.receiver.specs.declared.Heard.{Heard}
@@ -25,7 +25,7 @@ use Rattle.receiver.specs.declared.WrongBy.{WrongBy}
 use Rattle.receiver.specs.declared.WrongBy.the-variants as By
 use Rattle.receiver.specs.declared.Verdict.{Verdict}
 use Rattle.receiver.specs.declared.Judged.{Judged}
-use Rattle.receiver.specs.declared.Judged.the-variants.{With, Never}
+use Rattle.receiver.specs.declared.Judged.the-variants.{With}
 use Rattle.rows.specs.declared.Row.{Row}
 use Rattle.flat.specs.Words.{most32, most64, low32, keyOf, maybeFits, altitudeOf, siteOf, siteFits, idOf, lastOf, byOf, runOf, verdictOf, runFits, verdictFits, rowFits, heardOf, rowOf, junk, openedOf}
 use Rattle.flat.proofs.Runs.{here, there, further}
@@ -64,11 +64,11 @@ module _ (ws : List ℕ) (i : ℕ) where
   not1 : getD ws i 0 ≢ 1 → eqb (getD (drop i ws) 0 0) 1 ≡ false
   not1 h = ap (λ (t : ℕ). eqb t 1) (here ws i) ∙ ne-eqb (getD ws i 0) 1 h
 
-  -- A NUMBER OR NONE
-  pub maybe-none : (m : ℕ) → getD ws i 0 ≡ 0 → true ≡ maybeFits m (drop i ws)
-  unfolding maybeFits
-  maybe-none m h = simp (tag0 h)
+  -- with tag 0 the first case, whatever is opened
+  pub absent : {X : Type 0} (x y : X) → getD ws i 0 ≡ 0 → x ≡ cond (eqb (getD (drop i ws) 0 0) 0) x y
+  absent x y h = simp (tag0 h)
 
+  -- A NUMBER OR NONE
   pub maybe-some : (m : ℕ) → getD ws i 0 ≡ 1 → leb (getD ws (i + 1) 0) m ≡ maybeFits m (drop i ws)
   unfolding maybeFits
   maybe-some m h = simp (tag1 h, is1 h, there ws i 1)
@@ -78,17 +78,9 @@ module _ (ws : List ℕ) (i : ℕ) where
   maybe-other m h k = simp (tag h, not1 k)
 
   -- ALTITUDE AND SITE
-  pub altitude-none : getD ws i 0 ≡ 0 → Unknown ≡ altitudeOf (drop i ws)
-  unfolding altitudeOf
-  altitude-none h = simp (tag0 h)
-
   pub altitude-some : (z : ℤ) → getD ws i 0 ≢ 0 → z ≡ toZ w32 (low32 (getD ws (i + 1) 0)) → Metres z ≡ altitudeOf (drop i ws)
   unfolding altitudeOf
   altitude-some z h e = simp (tag h, there ws i 1, e)
-
-  pub site-fits-none : getD ws i 0 ≡ 0 → true ≡ siteFits (drop i ws)
-  unfolding siteFits
-  site-fits-none h = simp (tag0 h)
 
   pub site-fits-some : (m : ℕ) (r : Bool) → getD ws i 0 ≡ 1 → m ≡ most32 → r ≡ maybeFits m (drop (i + 3) ws) → r ≡ siteFits (drop i ws)
   unfolding siteFits
@@ -98,28 +90,16 @@ module _ (ws : List ℕ) (i : ℕ) where
   unfolding siteFits
   site-fits-other h k = simp (tag h, not1 k)
 
-  pub site-none : getD ws i 0 ≡ 0 → Nowhere ≡ siteOf (drop i ws)
-  unfolding siteOf
-  site-none h = simp (tag0 h)
-
   pub site-some : (lat lon : Float) (a : Altitude) → getD ws i 0 ≢ 0 → lat ≡ ofBits binary64 (getD ws (i + 1) 0) → lon ≡ ofBits binary64 (getD ws (i + 2) 0) → a ≡ altitudeOf (drop (i + 3) ws) → At (record { lat = lat; lon = lon; «alt_m» = a }) ≡ siteOf (drop i ws)
   unfolding siteOf
   site-some lat lon a h e f g = simp (tag h, there ws i 1, there ws i 2, further ws i 3, e, f, g)
 
   -- EPOCH ID
-  pub id-none : getD ws i 0 ≡ 0 → Ids.Nothing ≡ idOf (drop i ws)
-  unfolding idOf
-  id-none h = simp (tag0 h)
-
   pub id-some : getD ws i 0 ≢ 0 → Ids.Id (getD ws (i + 1) 0) ≡ idOf (drop i ws)
   unfolding idOf
   id-some h = simp (tag h, there ws i 1)
 
   -- VERDICT
-  pub by-none : getD ws i 0 ≡ 0 → By.Nothing ≡ byOf (drop i ws)
-  unfolding byOf
-  by-none h = simp (tag0 h)
-
   pub by-some : (d : ℕ) → getD ws i 0 ≢ 0 → d ≡ low32 (getD ws (i + 1) 0) → By.Km d ≡ byOf (drop i ws)
   unfolding byOf
   by-some d h e = simp (tag h, there ws i 1, e)
@@ -131,10 +111,6 @@ module _ (ws : List ℕ) (i : ℕ) where
   unfolding runFits
   run-fits-is a b c d x y r m ea eb em ec ed ex ey er = simp (here ws i, there ws i 1, there ws i 2, there ws i 3, there ws i 6, further ws i 4, er, ey, ex, ed, ec, em, eb, ea)
 
-  pub verdict-fits-none : getD ws i 0 ≡ 0 → true ≡ verdictFits (drop i ws)
-  unfolding verdictFits
-  verdict-fits-none h = simp (tag0 h)
-
   pub verdict-fits-some : (r : Bool) → getD ws i 0 ≢ 0 → r ≡ runFits (drop i ws) → r ≡ verdictFits (drop i ws)
   unfolding verdictFits
   verdict-fits-some r h e = simp (tag h, e)
@@ -144,10 +120,6 @@ module _ (ws : List ℕ) (i : ℕ) where
       → record { last = l; «wrong_run» = x; «other_run» = y; «wrong_by» = b; moved = t } ≡ runOf (drop i ws)
   unfolding runOf
   run-is l x y b s t el ex ey eb es et = simp (there ws i 1, there ws i 2, there ws i 3, there ws i 6, further ws i 4, el, ex, ey, eb, et, es)
-
-  pub verdict-none : getD ws i 0 ≡ 0 → Never ≡ verdictOf (drop i ws)
-  unfolding verdictOf
-  verdict-none h = simp (tag0 h)
 
   pub verdict-some : (v : Verdict) → getD ws i 0 ≢ 0 → v ≡ runOf (drop i ws) → With v ≡ verdictOf (drop i ws)
   unfolding verdictOf

@@ -1,40 +1,35 @@
 -- Closed and opened again, a row within its ranges is itself: a law for each part, whatever words follow, and the row's by them.
-use mathlib.Core.Path.{_≡_, refl, sym, ap, _∙_, subst}
-use Prim.Native.Nat.{ℕ, _+_, _%_, _^_, _≤_, _<_}
+use mathlib.Core.Path.{_≡_, refl, sym, ap, _∙_}
+use Prim.Native.Nat.{ℕ, _+_, _≤_}
 use native.Mathlib.Omega.{arith}
 use native.Mathlib.Nat.{mod-eq-of-lt}
-use mathlib.Core.Bool.{Bool, true, false, cond, not, _&&_}
+use mathlib.Core.Bool.{Bool, true, false, cond, not}
 use mathlib.Core.List.{List, [], _∷_, _++_, append-assoc}
 use borrow.Author.Tests.{le-leb}
-use lib.Dec.{T, eqb, leb}
-use lib.ListN.{length, getD, drop}
-use lib.IntN.{ℤ}
-use lib.Ieee.{binary64, ofBits, toBits, nan}
+use lib.Dec.{eqb, leb}
+use lib.ListN.{getD, drop}
+use lib.Ieee.{binary64}
 use lib.Ieee.Bits.{ofBits-toBits}
 use mir.Syntax.{w32}
-use mir.Val.{ofZ, toZ, SFits}
+use mir.Val.{ofZ, toZ}
 use mir.ValLaws.{toZ-ofZ, ofZ-fits}
 use Rattle.floats.specs.Degrees.{within}
-use Rattle.sites.specs.Sites.{held}
 use Rattle.sites.specs.declared.Altitude.{Altitude}
 use Rattle.sites.specs.declared.Altitude.the-variants.{Metres, Unknown}
-use Rattle.sites.specs.declared.Site.{Site}
 use Rattle.sites.specs.declared.Claimed.{Claimed}
 use Rattle.sites.specs.declared.Claimed.the-variants.{At, Nowhere}
 use Rattle.view.specs.declared.EpochId.{EpochId}
 use Rattle.view.specs.declared.EpochId.the-variants as Ids
-use Rattle.receiver.specs.declared.Heard.{Heard}
 use Rattle.receiver.specs.declared.Last.{Last}
 use Rattle.receiver.specs.declared.Last.the-variants.{Unjudged, Fits, Wrong}
 use Rattle.receiver.specs.declared.WrongBy.{WrongBy}
 use Rattle.receiver.specs.declared.WrongBy.the-variants as By
-use Rattle.receiver.specs.declared.Verdict.{Verdict}
 use Rattle.receiver.specs.declared.Judged.{Judged}
 use Rattle.receiver.specs.declared.Judged.the-variants.{With, Never}
 use Rattle.rows.specs.declared.Row.{Row}
 use Rattle.rows.specs.Read.{fits}
 use Rattle.flat.specs.Words.{most32, most64, low32, keyWords, keyOf, maybeFits, altitudeWords, altitudeOf, siteWords, siteOf, siteFits, idWords, idOf, lastWord, lastOf, byWords, byOf, verdictWords, runOf, verdictOf, runFits, verdictFits, heardWords, closedOf, rowFits, heardOf, rowOf, junk, openedOf}
-use Rattle.flat.specs.Ranges.{KeyIn, AltitudeIn, SiteIn, IdIn, ByIn, RunIn, VerdictIn, HeardIn, RowIn}
+use Rattle.flat.specs.Ranges.{AltitudeIn, SiteIn, IdIn, ByIn, VerdictIn, RowIn}
 use Rattle.flat.proofs.Runs.{here, there, past}
 use Rattle.flat.proofs.Keys.{key-words, key-back}
 use Rattle.flat.proofs.Closing.{site-words, id-words, verdict-words}

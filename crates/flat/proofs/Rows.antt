@@ -5,11 +5,11 @@ use Prim.Native.Nat.{ℕ, zero, suc, _+_, _-_, _*_, _/_, _%_, _≤_, _<_}
 use native.Mathlib.Omega.{arith}
 use native.Mathlib.Nat.{div-add-mod', mul-le-mul-right}
 use mathlib.Core.Bool.{Bool, true, false, cond}
-use mathlib.Core.List.{List, [], _∷_, _++_, append-assoc}
+use mathlib.Core.List.{List, [], _∷_, _++_}
 use borrow.Author.Tests.{eq-eqb, ne-eqb, leb-true, leb-false, eqb-true}
-use lib.Dec.{eqb, leb, T}
-use lib.ListN.{length, getD, set, take, drop, length-append, length-take, length-drop, length-set, List·getD-eq-default}
-use lib.Seq.{take-at, drop-at, take-append-le, drop-append-le, take-take, drop-drop, length-take-le, set-out, take-nil}
+use lib.Dec.{eqb, leb}
+use lib.ListN.{length, getD, set, take, drop, length-append, length-take, length-drop, List·getD-eq-default}
+use lib.Seq.{take-at, drop-at, take-append-le, drop-append-le, take-take, drop-drop, set-out, take-nil}
 use mir.Syntax.{w32, w64}
 use mir.Val.{Fits}
 use Rattle.rows.specs.declared.Row.{Row}

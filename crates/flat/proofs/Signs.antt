@@ -1,10 +1,10 @@
 -- A signed number's 32 bits, as the code makes and reads them: below zero by one less than its size, m to −1 − m and back.
 use mathlib.Core.Path.{_≡_, refl, sym, ap, _∙_, subst}
-use Prim.Native.Nat.{ℕ, zero, suc, _+_, _-_, _≤_, _<_}
+use Prim.Native.Nat.{ℕ, zero, suc, _-_, _≤_}
 use native.Mathlib.Omega.{arith}
 use mathlib.Core.Bool.{Bool, true, false, cond, true≢false}
 use borrow.Author.Tests.{le-ltb, ltb-true}
-use lib.Dec.{T, ltb}
+use lib.Dec.{T}
 use lib.IntN.{ℤ, pos, negsuc, natAbs, _-ℤ_}
 use lib.Signed.{ltZ, nonNeg, mag}
 use mir.Syntax.{w32, w64}

@@ -2,7 +2,7 @@
 -- its 32 bits; generation; even id and odd id: 0, or 1 and the id; verdict: 0, or 1, last, wrongs, others, distance (0, or 1 and it), moved; before; after.
 -- Words of what is absent are written as 0 and not read. Definitions only.
 use Prim.Native.Nat.{ℕ, zero, suc, _+_, _*_, _/_, _%_, _^_}
-use mathlib.Core.Bool.{Bool, true, false, cond, not, _&&_}
+use mathlib.Core.Bool.{Bool, true, cond, not, _&&_}
 use mathlib.Core.List.{List, [], _∷_, _++_}
 use lib.Dec.{eqb, leb}
 use lib.ListN.{getD, take, drop}

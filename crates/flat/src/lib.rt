@@ -2,12 +2,12 @@
 // nothing here asks for anything: words out of range open as a row that question 2 refuses.
 ghost use mathlib.Core.Path.{_≡_};
 ghost use mathlib.Core.Bool.{cond, _&&_};
-ghost use mathlib.Core.List.{List, [], _∷_};
-ghost use Prim.Native.Nat.{_<_, _≤_, _+_, _*_, _%_, _^_};
-ghost use lib.Dec.{T, eqb, leb};
+ghost use mathlib.Core.List.{[], _∷_};
+ghost use Prim.Native.Nat.{_<_, _≤_, _+_, _*_, _%_};
+ghost use lib.Dec.{T, leb};
 ghost use lib.ListN.{length, set, getD, drop};
 ghost use lib.Seq.{sets};
-ghost use lib.Ieee.{binary64, ofBits, toBits, fits};
+ghost use lib.Ieee.{binary64, toBits, fits};
 ghost use mir.Syntax.{w32};
 ghost use mir.Val.{ofZ, toZ, SFits};
 ghost use Rattle.rows.specs.Links.{blank, nexted, preved};
@@ -201,7 +201,7 @@ fn put_bytes(key: &mut [u8; 32], at: usize, w: u64)
     key[at + 7] = low8(w7);
 }
 
-pub fn key_at(words: &[u64]) -> [u8; 32]
+fn key_at(words: &[u64]) -> [u8; 32]
     requires { ⌜ 4 ≤ length (now words) ⌝ }
     ensures { λ r. ⌜ r ≡ keyOf (now (words .entry)) ⌝ }
 {
@@ -215,7 +215,7 @@ pub fn key_at(words: &[u64]) -> [u8; 32]
 
 // ---- a number or none
 
-pub fn maybe_fits(words: &[u64], at: usize, most: u64) -> bool
+fn maybe_fits(words: &[u64], at: usize, most: u64) -> bool
     requires { ⌜ at + 2 ≤ length (now words) ⌝ }
     ensures { λ r. ⌜ r ≡ maybeFits most (drop at (now (words .entry))) ⌝ }
 {
@@ -272,7 +272,7 @@ fn put_site(words: &mut [u64], at: usize, site: Claimed)
     }
 }
 
-pub fn site_fits(words: &[u64], at: usize) -> bool
+fn site_fits(words: &[u64], at: usize) -> bool
     requires { ⌜ at + 5 ≤ length (now words) ⌝ }
     ensures { λ r. ⌜ r ≡ siteFits (drop at (now (words .entry))) ⌝ }
 {
@@ -286,7 +286,7 @@ pub fn site_fits(words: &[u64], at: usize) -> bool
     false
 }
 
-pub fn site_at(words: &[u64], at: usize) -> Claimed
+fn site_at(words: &[u64], at: usize) -> Claimed
     requires { ⌜ at + 5 ≤ length (now words) ⌝ }
     ensures { λ r. ⌜ r ≡ siteOf (drop at (now (words .entry))) ⌝ }
 {
@@ -315,7 +315,7 @@ fn put_id(words: &mut [u64], at: usize, id: EpochId)
     }
 }
 
-pub fn id_at(words: &[u64], at: usize) -> EpochId
+fn id_at(words: &[u64], at: usize) -> EpochId
     requires { ⌜ at + 2 ≤ length (now words) ⌝ }
     ensures { λ r. ⌜ r ≡ idOf (drop at (now (words .entry))) ⌝ }
 {
@@ -416,7 +416,7 @@ fn run_fits(words: &[u64], at: usize) -> bool
     rows::both(a, rows::both(b, rows::both(c, d)))
 }
 
-pub fn verdict_fits(words: &[u64], at: usize) -> bool
+fn verdict_fits(words: &[u64], at: usize) -> bool
     requires { ⌜ at + 7 ≤ length (now words) ⌝ }
     ensures { λ r. ⌜ r ≡ verdictFits (drop at (now (words .entry))) ⌝ }
 {
@@ -444,7 +444,7 @@ fn run_at(words: &[u64], at: usize) -> Verdict
     }
 }
 
-pub fn verdict_at(words: &[u64], at: usize) -> Judged
+fn verdict_at(words: &[u64], at: usize) -> Judged
     requires { ⌜ at + 7 ≤ length (now words) ⌝ }
     ensures { λ r. ⌜ r ≡ verdictOf (drop at (now (words .entry))) ⌝ }
 {

@@ -1,5 +1,6 @@
 -- `flat::altitude_at` meets its contract: each way out is a law that is cited below, at what the code found.
-use Rattle.flat.proofs.Opening.{altitude-none, altitude-some}
+use Rattle.flat.proofs.Opening.{absent, altitude-some}
+use Rattle.flat.specs.Words.{altitudeOf}
 use borrow.Author.Needs.{needs}
 use Rattle.flat.proofs.altitude_at.Statement.{statement}
 use Rattle.flat.proofs.altitude_at.Tie as tie
@@ -11,7 +12,8 @@ shared-slice-read-if1 : tie.Need-shared-slice-read-if1
 shared-slice-read-if1 c = search needs
 
 returns : tie.Need-returns
-returns c = search (altitude-none, needs)
+unfolding altitudeOf
+returns c = search (absent, needs)
 
 add-signed : tie.Need-add-signed
 add-signed c = search needs

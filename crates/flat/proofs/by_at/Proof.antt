@@ -1,5 +1,6 @@
 -- `flat::by_at` meets its contract: each way out is a law that is cited below, at what the code found.
-use Rattle.flat.proofs.Opening.{by-none, by-some}
+use Rattle.flat.proofs.Opening.{absent, by-some}
+use Rattle.flat.specs.Words.{byOf}
 use borrow.Author.Needs.{needs}
 use Rattle.flat.proofs.by_at.Statement.{statement}
 use Rattle.flat.proofs.by_at.Tie as tie
@@ -11,7 +12,8 @@ shared-slice-read-if1 : tie.Need-shared-slice-read-if1
 shared-slice-read-if1 c = search needs
 
 returns : tie.Need-returns
-returns c = search (by-none, needs)
+unfolding byOf
+returns c = search (absent, needs)
 
 add-low32 : tie.Need-add-low32
 add-low32 c = search needs

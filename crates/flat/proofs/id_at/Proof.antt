@@ -1,5 +1,6 @@
 -- `flat::id_at` meets its contract: each way out is a law that is cited below, at what the code found.
-use Rattle.flat.proofs.Opening.{id-none, id-some}
+use Rattle.flat.proofs.Opening.{absent, id-some}
+use Rattle.flat.specs.Words.{idOf}
 use borrow.Author.Needs.{needs}
 use Rattle.flat.proofs.id_at.Statement.{statement}
 use Rattle.flat.proofs.id_at.Tie as tie
@@ -11,7 +12,8 @@ shared-slice-read-if1 : tie.Need-shared-slice-read-if1
 shared-slice-read-if1 c = search needs
 
 returns : tie.Need-returns
-returns c = search (id-none, needs)
+unfolding idOf
+returns c = search (absent, needs)
 
 add-t3 : tie.Need-add-t3
 add-t3 c = search needs

@@ -1,5 +1,6 @@
 -- `flat::maybe_fits` meets its contract: each way out is a law that is cited below, at what the code found.
-use Rattle.flat.proofs.Opening.{maybe-none, maybe-some, maybe-other}
+use Rattle.flat.proofs.Opening.{absent, maybe-some, maybe-other}
+use Rattle.flat.specs.Words.{maybeFits}
 use borrow.Author.Needs.{needs}
 use Rattle.flat.proofs.maybe_fits.Statement.{statement}
 use Rattle.flat.proofs.maybe_fits.Tie as tie
@@ -11,7 +12,8 @@ shared-slice-read-tag : tie.Need-shared-slice-read-tag
 shared-slice-read-tag c = search needs
 
 returns : tie.Need-returns
-returns c = search (maybe-none, needs)
+unfolding maybeFits
+returns c = search (absent, needs)
 
 add-result : tie.Need-add-result
 add-result c = search needs

@@ -1,5 +1,7 @@
 -- `flat::put_altitude` meets its contract: each way out is a law that is cited below, at what the code found.
-use Rattle.flat.proofs.Closing.{altitude-puts, altitude-in, altitude-puts-none, altitude-in-none}
+use Rattle.flat.proofs.Closing.{puts, metres-words, in-range}
+use Rattle.flat.specs.Words.{altitudeWords}
+use Rattle.flat.specs.Ranges.{AltitudeIn}
 use borrow.Author.Needs.{needs}
 use Rattle.flat.proofs.put_altitude.Statement.{statement}
 use Rattle.flat.proofs.put_altitude.Tie as tie
@@ -23,13 +25,14 @@ same-length : tie.Need-same-length
 same-length c = search needs
 
 returns : tie.Need-returns
-returns c = search (altitude-puts, altitude-in, needs)
+returns c = search (puts altitudeWords, metres-words, in-range AltitudeIn, needs)
 
 same-length-2 : tie.Need-same-length-2
 same-length-2 c = search needs
 
 returns-2 : tie.Need-returns-2
-returns-2 c = search (altitude-puts-none, altitude-in-none, needs)
+unfolding altitudeWords
+returns-2 c = search (puts altitudeWords, in-range AltitudeIn, needs)
 
 pub put-altitude-spec : {M : Type 1} → statement M
 put-altitude-spec =

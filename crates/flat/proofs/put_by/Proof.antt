@@ -1,5 +1,7 @@
 -- `flat::put_by` meets its contract: each way out is a law that is cited below, at what the code found.
-use Rattle.flat.proofs.Closing.{by-puts, by-in, by-puts-none, by-in-none}
+use Rattle.flat.proofs.Closing.{puts, in-range}
+use Rattle.flat.specs.Words.{byWords}
+use Rattle.flat.specs.Ranges.{ByIn}
 use borrow.Author.Needs.{needs}
 use Rattle.flat.proofs.put_by.Statement.{statement}
 use Rattle.flat.proofs.put_by.Tie as tie
@@ -23,13 +25,15 @@ same-length : tie.Need-same-length
 same-length c = search needs
 
 returns : tie.Need-returns
-returns c = search (by-puts, by-in, needs)
+unfolding byWords
+returns c = search (puts byWords, in-range ByIn, needs)
 
 same-length-2 : tie.Need-same-length-2
 same-length-2 c = search needs
 
 returns-2 : tie.Need-returns-2
-returns-2 c = search (by-puts-none, by-in-none, needs)
+unfolding byWords
+returns-2 c = search (puts byWords, in-range ByIn, needs)
 
 pub put-by-spec : {M : Type 1} → statement M
 put-by-spec =

@@ -1,5 +1,7 @@
 -- `flat::put_id` meets its contract: each way out is a law that is cited below, at what the code found.
-use Rattle.flat.proofs.Closing.{id-puts, id-in, id-puts-none, id-in-none}
+use Rattle.flat.proofs.Closing.{puts, in-range}
+use Rattle.flat.specs.Words.{idWords}
+use Rattle.flat.specs.Ranges.{IdIn}
 use borrow.Author.Needs.{needs}
 use Rattle.flat.proofs.put_id.Statement.{statement}
 use Rattle.flat.proofs.put_id.Tie as tie
@@ -23,13 +25,15 @@ same-length : tie.Need-same-length
 same-length c = search needs
 
 returns : tie.Need-returns
-returns c = search (id-puts, id-in, needs)
+unfolding idWords
+returns c = search (puts idWords, in-range IdIn, needs)
 
 same-length-2 : tie.Need-same-length-2
 same-length-2 c = search needs
 
 returns-2 : tie.Need-returns-2
-returns-2 c = search (id-puts-none, id-in-none, needs)
+unfolding idWords
+returns-2 c = search (puts idWords, in-range IdIn, needs)
 
 pub put-id-spec : {M : Type 1} → statement M
 put-id-spec =

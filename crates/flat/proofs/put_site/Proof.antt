@@ -1,5 +1,6 @@
 -- `flat::put_site` meets its contract: each way out is a law that is cited below, at what the code found.
-use Rattle.flat.proofs.Closing.{site-puts, site-in, site-puts-none, site-in-none}
+use Rattle.flat.proofs.Closing.{site-puts, in-range, site-puts-none}
+use Rattle.flat.specs.Ranges.{SiteIn}
 use borrow.Author.Needs.{needs}
 use Rattle.flat.proofs.put_site.Statement.{statement}
 use Rattle.flat.proofs.put_site.Tie as tie
@@ -50,13 +51,13 @@ same-length : tie.Need-same-length
 same-length c = search needs
 
 returns : tie.Need-returns
-returns c = search (site-puts, site-in, needs)
+returns c = search (site-puts, in-range SiteIn, needs)
 
 same-length-2 : tie.Need-same-length-2
 same-length-2 c = search needs
 
 returns-2 : tie.Need-returns-2
-returns-2 c = search (site-puts-none, site-in-none, needs)
+returns-2 c = search (site-puts-none, in-range SiteIn, needs)
 
 pub put-site-spec : {M : Type 1} → statement M
 put-site-spec =

@@ -1,5 +1,7 @@
 -- `flat::put_verdict` meets its contract: each way out is a law that is cited below, at what the code found.
-use Rattle.flat.proofs.Closing.{verdict-puts, verdict-in, never-puts, verdict-in-none}
+use Rattle.flat.proofs.Closing.{puts, in-range, never-puts}
+use Rattle.flat.specs.Words.{verdictWords}
+use Rattle.flat.specs.Ranges.{VerdictIn}
 use borrow.Author.Needs.{needs}
 use Rattle.flat.proofs.put_verdict.Statement.{statement}
 use Rattle.flat.proofs.put_verdict.Tie as tie
@@ -32,13 +34,13 @@ same-length : tie.Need-same-length
 same-length c = search needs
 
 returns : tie.Need-returns
-returns c = search (verdict-puts, verdict-in, needs)
+returns c = search (puts verdictWords, in-range VerdictIn, needs)
 
 same-length-2 : tie.Need-same-length-2
 same-length-2 c = search needs
 
 returns-2 : tie.Need-returns-2
-returns-2 c = search (never-puts, verdict-in-none, needs)
+returns-2 c = search (never-puts, in-range VerdictIn, needs)
 
 pub put-verdict-spec : {M : Type 1} → statement M
 put-verdict-spec =

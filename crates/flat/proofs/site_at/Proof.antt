@@ -1,5 +1,6 @@
 -- `flat::site_at` meets its contract: each way out is a law that is cited below, at what the code found.
-use Rattle.flat.proofs.Opening.{site-none, site-some}
+use Rattle.flat.proofs.Opening.{absent, site-some}
+use Rattle.flat.specs.Words.{siteOf}
 use borrow.Author.Needs.{needs}
 use Rattle.flat.proofs.site_at.Statement.{statement}
 use Rattle.flat.proofs.site_at.Tie as tie
@@ -11,7 +12,8 @@ shared-slice-read-if1 : tie.Need-shared-slice-read-if1
 shared-slice-read-if1 c = search needs
 
 returns : tie.Need-returns
-returns c = search (site-none, needs)
+unfolding siteOf
+returns c = search (absent, needs)
 
 add-float-of : tie.Need-add-float-of
 add-float-of c = search needs

@@ -1,5 +1,6 @@
 -- `flat::site_fits` meets its contract: each way out is a law that is cited below, at what the code found.
-use Rattle.flat.proofs.Opening.{site-fits-none, site-fits-some, site-fits-other}
+use Rattle.flat.proofs.Opening.{absent, site-fits-some, site-fits-other}
+use Rattle.flat.specs.Words.{siteFits}
 use borrow.Author.Needs.{needs}
 use Rattle.flat.proofs.site_fits.Statement.{statement}
 use Rattle.flat.proofs.site_fits.Tie as tie
@@ -11,7 +12,8 @@ shared-slice-read-tag : tie.Need-shared-slice-read-tag
 shared-slice-read-tag c = search needs
 
 returns : tie.Need-returns
-returns c = search (site-fits-none, needs)
+unfolding siteFits
+returns c = search (absent, needs)
 
 add-maybe-fits : tie.Need-add-maybe-fits
 add-maybe-fits c = search needs

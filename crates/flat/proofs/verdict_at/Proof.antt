@@ -1,5 +1,6 @@
 -- `flat::verdict_at` meets its contract: each way out is a law that is cited below, at what the code found.
-use Rattle.flat.proofs.Opening.{verdict-none, verdict-some}
+use Rattle.flat.proofs.Opening.{absent, verdict-some}
+use Rattle.flat.specs.Words.{verdictOf}
 use borrow.Author.Needs.{needs}
 use Rattle.flat.proofs.verdict_at.Statement.{statement}
 use Rattle.flat.proofs.verdict_at.Tie as tie
@@ -11,7 +12,8 @@ shared-slice-read-if1 : tie.Need-shared-slice-read-if1
 shared-slice-read-if1 c = search needs
 
 returns : tie.Need-returns
-returns c = search (verdict-none, needs)
+unfolding verdictOf
+returns c = search (absent, needs)
 
 run-at-requires : tie.Need-run-at-requires
 run-at-requires c κs = search needs

@@ -1,5 +1,6 @@
 -- `flat::verdict_fits` meets its contract: each way out is a law that is cited below, at what the code found.
-use Rattle.flat.proofs.Opening.{verdict-fits-none, verdict-fits-some}
+use Rattle.flat.proofs.Opening.{absent, verdict-fits-some}
+use Rattle.flat.specs.Words.{verdictFits}
 use borrow.Author.Needs.{needs}
 use Rattle.flat.proofs.verdict_fits.Statement.{statement}
 use Rattle.flat.proofs.verdict_fits.Tie as tie
@@ -11,7 +12,8 @@ shared-slice-read-if1 : tie.Need-shared-slice-read-if1
 shared-slice-read-if1 c = search needs
 
 returns : tie.Need-returns
-returns c = search (verdict-fits-none, needs)
+unfolding verdictFits
+returns c = search (absent, needs)
 
 run-fits-requires : tie.Need-run-fits-requires
 run-fits-requires c κs = search needs
