@@ -201,7 +201,7 @@ fn put_bytes(key: &mut [u8; 32], at: usize, w: u64)
     key[at + 7] = low8(w7);
 }
 
-fn key_at(words: &[u64]) -> [u8; 32]
+pub fn key_at(words: &[u64]) -> [u8; 32]
     requires { ⌜ 4 ≤ length (now words) ⌝ }
     ensures { λ r. ⌜ r ≡ keyOf (now (words .entry)) ⌝ }
 {
