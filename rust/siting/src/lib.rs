@@ -1,5 +1,12 @@
 //! The proved functions behind safe Rust: what the relay calls in place of its own.
 
+mod watch;
+
+pub use watch::{
+    Claimed, Evidence, Judgment, Key, Lent, MOST_ROWS, NONE, Position, ROW_CELLS, ROW_WORDS,
+    Refusal, Site, State, Watch,
+};
+
 mod c {
     unsafe extern "C" {
         pub safe fn horizon_km(antenna_m: f64, aircraft_m: f64) -> f64;
