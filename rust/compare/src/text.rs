@@ -355,8 +355,58 @@ fn fields(f: &mut Fields) -> Result<Line, String> {
     Ok(Line::Call(call))
 }
 
+/// What a list is answered by.
+pub trait Table {
+    /// C fresh rows.
+    fn fresh(rows: usize) -> Self;
+    /// Rows in no chain, and any number of empty cells.
+    fn lent(rows: usize, cells: usize) -> Self;
+    fn call(&mut self, call: &Call) -> Answer;
+    fn digest(&self) -> u64;
+    /// Sets a row or a cell; false where it is not there.
+    fn row(&mut self, at: usize, row: Row) -> bool;
+    fn cell(&mut self, at: usize, word: u32) -> bool;
+    fn ends(&mut self, ends: [Link; 3]);
+}
+
+impl Table for Watch {
+    fn fresh(rows: usize) -> Self {
+        Watch::fresh(rows)
+    }
+
+    fn lent(rows: usize, cells: usize) -> Self {
+        Watch::lent(rows, cells)
+    }
+
+    fn call(&mut self, call: &Call) -> Answer {
+        self.answer(call, None)
+    }
+
+    fn digest(&self) -> u64 {
+        Watch::digest(self)
+    }
+
+    fn row(&mut self, at: usize, row: Row) -> bool {
+        self.rows.get_mut(at).is_some_and(|held| {
+            *held = row;
+            true
+        })
+    }
+
+    fn cell(&mut self, at: usize, word: u32) -> bool {
+        self.cells.get_mut(at).is_some_and(|held| {
+            *held = word;
+            true
+        })
+    }
+
+    fn ends(&mut self, ends: [Link; 3]) {
+        [self.first, self.last, self.free] = ends;
+    }
+}
+
 /// Answers a line, if it has an answer; the error says what cannot be read.
-fn answer(watch: &mut Watch, line: &str) -> Result<Option<String>, String> {
+fn answer<T: Table>(watch: &mut T, line: &str) -> Result<Option<String>, String> {
     let text = line.split('#').next().unwrap_or("").trim_end();
     let mut rest = Fields(text.split(' '));
     let line = fields(&mut rest)?;
@@ -365,23 +415,31 @@ fn answer(watch: &mut Watch, line: &str) -> Result<Option<String>, String> {
     }
     match line {
         Line::Nothing => {}
-        Line::Call(call) => return Ok(Some(watch.answer(&call, None).line())),
+        Line::Call(call) => return Ok(Some(watch.call(&call).line())),
         Line::Digest => return Ok(Some(format!("digest {:016x}", watch.digest()))),
         Line::Watch(rows) | Line::Lend(rows, _) if rows > 4_096 => {
             return Err("C is above 4096".to_string());
         }
-        Line::Watch(rows) => *watch = Watch::fresh(rows),
-        Line::Lend(rows, cells) => *watch = Watch::lent(rows, cells),
-        Line::Row(at, row) => *watch.rows.get_mut(at).ok_or("I is past the rows")? = row,
-        Line::Cell(at, word) => *watch.cells.get_mut(at).ok_or("I is past the cells")? = word,
-        Line::Ends(ends) => [watch.first, watch.last, watch.free] = ends,
+        Line::Watch(rows) => *watch = T::fresh(rows),
+        Line::Lend(rows, cells) => *watch = T::lent(rows, cells),
+        Line::Row(at, row) if !watch.row(at, row) => return Err("I is past the rows".to_string()),
+        Line::Cell(at, word) if !watch.cell(at, word) => {
+            return Err("I is past the cells".to_string());
+        }
+        Line::Row(..) | Line::Cell(..) => {}
+        Line::Ends(ends) => watch.ends(ends),
     }
     Ok(None)
 }
 
 /// Answers a list of calls by the whole numbers, a line each.
 pub fn replay(list: &str) -> String {
-    let mut watch = Watch::fresh(1);
+    replay_by::<Watch>(list)
+}
+
+/// Answers a list of calls by any table, a line each.
+pub fn replay_by<T: Table>(list: &str) -> String {
+    let mut watch = T::fresh(1);
     let mut out = String::new();
     for (at, line) in list.lines().enumerate() {
         let said = answer(&mut watch, line)
