@@ -183,3 +183,30 @@ pub fn replay(file: &str) -> ExitCode {
         }
     }
 }
+
+#[cfg(test)]
+mod tests {
+    use super::*;
+    use crate::lent::Lent;
+
+    /// The stored lists have the stored answers, through the safe crate and by the whole numbers,
+    /// where the original is not at hand too.
+    #[test]
+    fn stored_lists_come_back() {
+        for name in ["day", "calls"] {
+            let folder = concat!(env!("CARGO_MANIFEST_DIR"), "/../../samples");
+            let read = |ending| std::fs::read_to_string(format!("{folder}/{name}.{ending}"));
+            let (list, answers) = (read("txt").expect("stored"), read("out").expect("stored"));
+            let got = text::replay_by::<Lent>(&list);
+            for (at, (want, got)) in answers.lines().zip(got.lines()).enumerate() {
+                assert!(
+                    text::answers(want, got),
+                    "{name}, answer {}: `{got}`",
+                    at + 1
+                );
+            }
+            assert_eq!(answers.lines().count(), got.lines().count(), "{name}");
+            assert_eq!(text::replay(&list), answers, "{name}");
+        }
+    }
+}
