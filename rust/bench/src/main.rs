@@ -1,8 +1,10 @@
 //! Times of our functions and of the original in one run: every row is measured again and again,
 //! both sides in turn, and the least time of each is said, as a Markdown table.
 
+mod calls;
 mod fields;
 
+use std::cell::RefCell;
 use std::hint::black_box;
 use std::time::Instant;
 
@@ -139,6 +141,11 @@ fn main() {
     let theirs = |(site, at)| Original::place(site, at);
     let fields = fields::all();
     let judged: Vec<Row> = fields.iter().map(|f| Row::new(&f.held, &f.cells)).collect();
+    let held: Vec<[RefCell<calls::Held>; 2]> = calls::SIZES
+        .iter()
+        .map(|size| [(); 2].map(|()| RefCell::new(calls::Held::new(*size))))
+        .collect();
+    let names = calls::names();
     let mut rows = vec![
         over("placing in the grid", &near, ours, theirs),
         over("placing past the grid", &far, ours, theirs),
@@ -169,6 +176,9 @@ fn main() {
                 }),
             });
         }
+    }
+    for (held, names) in held.iter().zip(&names) {
+        rows.extend(calls::benches(held, names));
     }
     table(&mut rows, repeats);
 }
