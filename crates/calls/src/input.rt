@@ -1,17 +1,16 @@
 // The list, line by line, and the answers, by a large buffer.
-use crate::read;
-use crate::reply::Fault;
-use crate::reply::Reply;
 use crate::write;
+use grammar::Fault;
 use libc::STDOUT_FILENO;
 use lines::Input;
 use lines::Line;
+use session::Reply;
 ghost use mathlib.Core.Path.{_≡_};
 ghost use Prim.Native.Nat.{_≤_};
 ghost use lib.ListN.{length};
 ghost use Rattle.lines.specs.Lines.{Within};
-ghost use Rattle.calls.specs.Replies.{replyTo};
-ghost use Rattle.calls.specs.Inputs.{numberOf};
+ghost use Rattle.grammar.specs.Lines.{lineOf};
+ghost use Rattle.calls.specs.Inputs.{replyTo, numberOf};
 
 pub struct State {
     pub input: Input,
@@ -33,12 +32,19 @@ fn room(out: &[u8], n: usize) -> usize
     }
 }
 
+fn asked(bytes: &[u8]) -> grammar::Line
+    ensures { λ r. ⌜ r ≡ lineOf (now (bytes .entry)) .line ⌝ }
+{
+    let said = grammar::read(bytes);
+    said.line
+}
+
 // What a line of these bytes is answered.
 fn reply_to(line: Line, bytes: &[u8]) -> Reply
     ensures { λ r. ⌜ r ≡ replyTo line (now (bytes .entry)) ⌝ }
 {
     match line {
-        Line::At { start: _, end: _ } => read::line(bytes),
+        Line::At { start: _, end: _ } => session::answer(asked(bytes)),
         Line::TooLong => Reply::Wrong(Fault::TooLong),
         Line::Nothing => Reply::Nothing,
     }

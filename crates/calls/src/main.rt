@@ -1,7 +1,5 @@
 // Reads a list of calls on standard input, one to a line, and writes one answer a line.
 mod input;
-mod read;
-mod reply;
 mod write;
 
 fn main() {

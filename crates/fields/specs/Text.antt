@@ -22,13 +22,13 @@ unfoldable pub textEnd : List ℕ → ℕ
 unfolding firstOf backOver
 textEnd line = cond (ltb (firstOf 35 line) (length line)) (backOver line (firstOf 35 line)) (length line)
 
--- Fields are separated by single spaces: the field that starts at `from` runs up to the next space, or to the end of the text, and the next one starts past that space.
--- Two spaces in a row, or one at either end, leave a field of no bytes: a stray space. Past the end of the text there is no field.
-unfoldable pub fieldAt : List ℕ → ℕ → Field
+-- Fields are separated by single spaces, the parts of a field by single commas: the one that starts at `from` runs up to the next separator, or to the end of the text,
+-- and the next one starts past that separator. Two separators in a row, or one at either end, leave a field of no bytes: a stray one. Past the end of the text there is no field.
+unfoldable pub fieldAt : ℕ → List ℕ → ℕ → Field
 unfolding firstOf
-fieldAt t from =
+fieldAt sep t from =
     cond (ltb (length t) from) End
-    (cond (eqb (firstOf 32 (drop from t)) 0) Stray (At from (from + firstOf 32 (drop from t)) (from + firstOf 32 (drop from t) + 1)))
+    (cond (eqb (firstOf sep (drop from t)) 0) Stray (At from (from + firstOf sep (drop from t)) (from + firstOf sep (drop from t) + 1)))
 
 -- the bytes of s from a up to e, none where s has no such part
 unfoldable pub partOf : List ℕ → ℕ → ℕ → List ℕ

@@ -4,7 +4,7 @@ ghost use Prim.Native.Nat.{_≤_, _-_};
 ghost use lib.ListN.{length};
 ghost use Rattle.fields.specs.Text.{firstOf, backOver, textEnd, fieldAt, partOf, sameBytes, shownOf, movedTo};
 
-// What stands at a place of a text: a field, a space that separates nothing, or no more.
+// What stands at a place of a text: a field, a separator that separates nothing, or no more.
 pub enum Field {
     At {
         start: usize,
@@ -56,22 +56,23 @@ pub fn text_end(line: &[u8]) -> usize
     }
 }
 
-// The field that starts at `from`, and where the next one starts: past the space after it.
-pub fn next_field(t: &[u8], from: usize) -> Field
-    ensures { λ r. ⌜ r ≡ fieldAt (now (t .entry)) from ⌝ }
+// The field that starts at `from`, and where the next one starts: past the `sep` after it.
+pub fn next_field(t: &[u8], from: usize, sep: u8) -> Field
+    ensures { λ r. ⌜ r ≡ fieldAt sep (now (t .entry)) from ⌝ }
 {
     if from > t.len() {
         return Field::End;
     }
-    let n = find(&t[from..], b' ');
+    let n = find(&t[from..], sep);
     if n == 0 {
         return Field::Stray;
     }
     let end = from + n;
+    let next = end + 1;
     Field::At {
         start: from,
         end,
-        next: end + 1,
+        next,
     }
 }
 

@@ -1,8 +1,8 @@
 -- Numbers as a list of calls writes them. Definitions only.
-use Prim.Native.Nat.{ℕ, _+_, _-_, _*_, _^_}
-use mathlib.Core.Bool.{Bool, true, _&&_, cond}
-use mathlib.Core.List.{List, [], _∷_}
-use lib.ListN.{length, getD, take, drop}
+use Prim.Native.Nat.{ℕ, zero, suc, _+_, _-_, _*_, _^_, _%_}
+use mathlib.Core.Bool.{Bool, true, false, _&&_, cond}
+use mathlib.Core.List.{List, [], _∷_, _++_}
+use lib.ListN.{length, getD, take, drop, replicate}
 use lib.Dec.{eqb, leb, ltb}
 use lib.IntN.{pos, negℤ}
 use lib.Ieee.{binary64, round, ofBits}
@@ -13,6 +13,7 @@ use Rattle.numbers.specs.declared.Signed.{Signed}
 use Rattle.numbers.specs.declared.Signed.the-variants as signed
 use Rattle.numbers.specs.declared.Real.{Real}
 use Rattle.numbers.specs.declared.Real.the-variants as real
+use Rattle.numbers.specs.declared.Key.{Key}
 
 -- the value of a digit in ASCII: `0` to `9` from 48 on, `A` to `F` from 65, `a` to `f` from 97; 16, a digit in no base here, for any other byte
 unfoldable pub digitOf : ℕ → ℕ
@@ -103,3 +104,27 @@ byBits number.Bad other = other
 unfoldable pub realOf : List ℕ → Real
 unfolding bitsOf decimalOf
 realOf s = byBits (bitsOf s) (decimalOf s)
+
+-- KEY: 64 hex digits, or fewer, then zeros are put in front
+unfoldable pub isKey : List ℕ → Bool
+unfolding allDigits
+isKey s = ltb 0 (length s) && (leb (length s) 64 && allDigits 16 s)
+
+-- the value of digit k of the 64
+unfoldable pub hexAt : List ℕ → ℕ → ℕ
+unfolding digitOf
+hexAt s k = cond (ltb k (64 - length s)) 0 (digitOf (getD s (k - (64 - length s)) 0) % 16)
+
+-- a byte is two digits, and the first n bytes are those of the first 2n
+unfoldable pub keyByte : List ℕ → ℕ → ℕ
+unfolding hexAt
+keyByte s i = 16 * hexAt s (2 * i) + hexAt s (2 * i + 1)
+
+unfoldable pub keyBytes : List ℕ → ℕ → List ℕ
+unfolding keyByte
+keyBytes s zero = []
+keyBytes s (suc n) = keyBytes s n ++ (keyByte s n ∷ [])
+
+unfoldable pub keyOf : List ℕ → Key
+unfolding isKey keyBytes
+keyOf s = cond (isKey s) (record { good = true; bytes = keyBytes s 32 }) (record { good = false; bytes = replicate 32 0 })

@@ -10,8 +10,8 @@ use Rattle.fields.proofs.next_field.Statement.{statement}
 use Rattle.fields.proofs.next_field.Tie as tie
 
 -- what find answers: the next space of the text from there on
-found : (c : tie.After-find) → c .find .result ≡ firstOf 32 (drop (c .before .before .before .before .args .from) (c .before .before .before .before .args .t .now))
-found c = c .find .ensures ∙ ap (firstOf 32) (tail (c .before .before .before .before .args .t .now) (c .before .before .before .before .args .from))
+found : (c : tie.After-find) → c .find .result ≡ firstOf (c .before .before .before .before .args .sep) (drop (c .before .before .before .before .args .from) (c .before .before .before .before .args .t .now))
+found c = c .find .ensures ∙ ap (firstOf (c .before .before .before .before .args .sep)) (tail (c .before .before .before .before .args .t .now) (c .before .before .before .before .args .from))
 
 returns : tie.Need-returns
 unfolding fieldAt
@@ -34,10 +34,10 @@ unfolding fieldAt
 returns-2 c = simp (← found (c .before), le-ltb _ _ (c .before .before .before .if1 .left), eq-eqb _ 0 (c .if2 .taken))
 
 add-end : tie.Need-add-end
-add-end c = omega (arith, found (c .before), find-le 32 (drop (c .before .before .before .before .before .args .from) (c .before .before .before .before .before .args .t .now)), length-drop (c .before .before .before .before .before .args .from) (c .before .before .before .before .before .args .t .now))
+add-end c = omega (arith, found (c .before), find-le (c .before .before .before .before .before .args .sep) (drop (c .before .before .before .before .before .args .from) (c .before .before .before .before .before .args .t .now)), length-drop (c .before .before .before .before .before .args .from) (c .before .before .before .before .before .args .t .now))
 
-add-t5 : tie.Need-add-t5
-add-t5 c = omega (arith, found (c .before), find-le 32 (drop (c .before .before .before .before .before .args .from) (c .before .before .before .before .before .args .t .now)), length-drop (c .before .before .before .before .before .args .from) (c .before .before .before .before .before .args .t .now))
+add-next : tie.Need-add-next
+add-next c = omega (arith, found (c .before), find-le (c .before .before .before .before .before .args .sep) (drop (c .before .before .before .before .before .args .from) (c .before .before .before .before .before .args .t .now)), length-drop (c .before .before .before .before .before .args .from) (c .before .before .before .before .before .args .t .now))
 
 returns-3 : tie.Need-returns-3
 unfolding fieldAt
@@ -54,5 +54,5 @@ next-field-spec =
     find-requires
     returns-2
     add-end
-    add-t5
+    add-next
     returns-3)

@@ -1,0 +1,34 @@
+-- `grammar::kinds::cell_line` meets its contract: it is its callees in turn, by a law of `Calls`.
+use Rattle.grammar.proofs.Calls.{cell-line}
+use borrow.Author.Needs.{needs}
+use Rattle.grammar.proofs.kinds.cell_line.Statement.{statement}
+use Rattle.grammar.proofs.kinds.cell_line.Tie as tie
+
+small-at-requires : tie.Need-small-at-requires
+small-at-requires c κs = search needs
+
+small-at-requires-2 : tie.Need-small-at-requires-2
+small-at-requires-2 c κs = search needs
+
+ended-requires : tie.Need-ended-requires
+ended-requires c κs = search needs
+
+told-requires : tie.Need-told-requires
+told-requires c κs = search needs
+
+say-requires : tie.Need-say-requires
+say-requires c κs = search needs
+
+returns : tie.Need-returns
+returns c = search (cell-line, needs)
+
+pub cell-line-spec : {M : Type 1} → statement M
+cell-line-spec =
+    tie.close
+    (tie.spec
+    small-at-requires
+    small-at-requires-2
+    ended-requires
+    told-requires
+    say-requires
+    returns)
