@@ -44,7 +44,7 @@ fn reply_to(line: Line, bytes: &[u8]) -> Reply
     ensures { λ r. ⌜ r ≡ replyTo line (now (bytes .entry)) ⌝ }
 {
     match line {
-        Line::At { start: _, end: _ } => session::answer(asked(bytes)),
+        Line::At { start: _, end: _ } => session::single::answer(asked(bytes)),
         Line::TooLong => Reply::Wrong(Fault::TooLong),
         Line::Nothing => Reply::Nothing,
     }

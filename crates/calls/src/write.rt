@@ -127,6 +127,7 @@ pub fn put_reply(out: &mut [u8], n: usize, reply: Reply, number: u64, line: &[u8
 {
     match reply {
         Reply::Nothing => n,
+        Reply::Answered => n,
         Reply::Place(p) => put_counted(out, n, b"place ", p as u64),
         Reply::Same(yes) => put_counted(out, n, b"same ", yes as u64),
         Reply::Horizon(km) => put_float(out, n, b"horizon ", km),

@@ -1,13 +1,22 @@
-// What a line of a list of calls is answered, as a value.
+// A list of calls, line by line: what a line is answered, and what it does to the watch that is lent.
+mod run;
+pub mod single;
+
+use grammar::Call;
 use grammar::Fault;
 use grammar::Line;
-use sites::Altitude;
-use sites::Site;
+use grammar::Said;
+use rows::Key;
+use watch::Answer;
+use watch::Word;
 ghost use mathlib.Core.Path.{_≡_};
-ghost use Rattle.session.specs.Replies.{siteOf, sameOf, bitOf, replyOf};
+ghost use Prim.Native.Nat.{_≤_};
+ghost use Rattle.session.specs.Watches.{noKey, noEnds, plainly, sizedOf, Within, Room, Opened, Answers, viewOf, Ran};
 
 pub enum Reply {
     Nothing,
+    // The answer of a call stands beside it.
+    Answered,
     Place(u16),
     Same(bool),
     Horizon(f64),
@@ -15,75 +24,180 @@ pub enum Reply {
     Bit(u32),
     No(u8),
     Wrong(Fault),
-    // The line asks for a watch, and no watch is served yet.
+    // The line is not served yet.
     Unserved,
 }
 
-fn site(lat: f64, lon: f64) -> Site
-    ensures { λ r. ⌜ r ≡ siteOf lat lon ⌝ }
+// How many rows and cells the watch has.
+pub struct Size {
+    pub rows: u32,
+    pub cells: u32,
+}
+
+// What a line is answered, and how large the watch is after it.
+pub struct Told {
+    pub reply: Reply,
+    pub answer: Answer,
+    pub size: Size,
+}
+
+fn no_key() -> Key
+    ensures { λ r. ⌜ r ≡ noKey ⌝ }
 {
-    Site {
-        lat,
-        lon,
-        alt_m: Altitude::Unknown,
+    Key { bytes: [0u8; 32] }
+}
+
+pub fn plain(z: Size, reply: Reply) -> Told
+    ensures { λ r. ⌜ r ≡ plainly z reply ⌝ }
+{
+    let k = no_key();
+    let key = k.bytes;
+    let answer = Answer {
+        word: Word::Done,
+        pushed: false,
+        key,
+    };
+    Told {
+        reply,
+        answer,
+        size: z,
     }
 }
 
-fn same(a: Site, b: Site) -> Reply
-    ensures { λ r. ⌜ r ≡ sameOf a b ⌝ }
+fn telling(z: Size, reply: Reply, answer: Answer) -> Told
+    ensures { λ r. ⌜ r ≡ record { reply = reply; answer = answer; size = z } ⌝ }
 {
-    if sites::in_degrees(a) {
-        if sites::in_degrees(b) {
-            return Reply::Same(sites::same_place(a, b));
-        }
-        return Reply::No(4);
+    Told {
+        reply,
+        answer,
+        size: z,
     }
-    Reply::No(4)
 }
 
-// The number of an aircraft's bit.
-fn bit(address: u32) -> u32
-    ensures { λ r. ⌜ r ≡ bitOf address ⌝ }
+pub fn sized(c: u32) -> Size
+    requires { ⌜ c ≤ 64 ⌝ }
+    ensures { λ r. ⌜ r ≡ sizedOf c ⌝ }
 {
-    u16::trailing_zeros(cells::aircraft_bit(address))
+    Size {
+        rows: c,
+        cells: 3344 * c,
+    }
 }
 
-pub fn answer(line: Line) -> Reply
-    ensures { λ r. ⌜ r ≡ replyOf line ⌝ }
+fn none_ends(ends: &mut [u32; 3])
+    ensures { λ _. ⌜ now (ends .exit) ≡ noEnds ⌝ }
+{
+    *ends = [4294967295, 4294967295, 4294967295];
+}
+
+// watch C: a fresh watch of C rows.
+pub fn open(z: Size, rows: &mut [u64], cells: &mut [u32], ends: &mut [u32; 3], c: u32) -> Told
+    requires { ⌜ Room (now rows) (now cells) ⌝ }
+    ensures { λ r. ⌜ Opened c z (now (rows .entry)) (now (cells .entry)) (now (ends .entry)) (now (rows .exit)) (now (cells .exit)) (now (ends .exit)) r ⌝ }
+{
+    if c > 64 {
+        return plain(z, Reply::Wrong(Fault::TooManyRows));
+    }
+    let y = sized(c);
+    none_ends(ends);
+    let a = run::call_in(y, rows, cells, ends, Call::Fresh, no_key());
+    telling(y, Reply::Nothing, a)
+}
+
+// A call on the watch.
+fn call(
+    z: Size,
+    rows: &mut [u64],
+    cells: &mut [u32],
+    ends: &mut [u32; 3],
+    asked: Call,
+    key: Key,
+) -> Told
+    requires { ⌜ Within z (now rows) (now cells) ⌝ }
+    ensures { λ r. ⌜ Answers asked (key .bytes) z (now (rows .entry)) (now (cells .entry)) (now (ends .entry)) (now (rows .exit)) (now (cells .exit)) (now (ends .exit)) r ⌝ }
+{
+    let a = run::call_in(z, rows, cells, ends, asked, key);
+    telling(z, Reply::Answered, a)
+}
+
+fn key_of(k: [u8; 32]) -> Key
+    ensures { λ r. ⌜ r ≡ record { bytes = k } ⌝ }
+{
+    Key { bytes: k }
+}
+
+// What a line asks of the watch.
+pub enum View {
+    Call(Call),
+    Watch(u32),
+    Plain,
+}
+
+fn view_of(line: Line) -> View
+    ensures { λ r. ⌜ r ≡ viewOf line ⌝ }
 {
     match line {
-        Line::Nothing => Reply::Nothing,
-        Line::Wrong(fault) => Reply::Wrong(fault),
+        Line::Call(c) => View::Call(c),
+        Line::Watch { rows: c } => View::Watch(c),
+        Line::Nothing => View::Plain,
+        Line::Wrong(_) => View::Plain,
         Line::Place {
-            lat1,
-            lon1,
-            lat2,
-            lon2,
-        } => Reply::Place(sites::place(lat1, lon1, lat2, lon2)),
+            lat1: _,
+            lon1: _,
+            lat2: _,
+            lon2: _,
+        } => View::Plain,
         Line::Same {
-            lat1,
-            lon1,
-            lat2,
-            lon2,
-        } => same(site(lat1, lon1), site(lat2, lon2)),
-        Line::Horizon { a, b } => Reply::Horizon(floats::horizon::horizon_km(a, b)),
-        Line::Bucket(feet) => Reply::Bucket(cells::bucket(feet)),
-        Line::Bit { address } => Reply::Bit(bit(address)),
-        Line::Watch { rows: _ } => Reply::Unserved,
-        Line::Call(_) => Reply::Unserved,
-        Line::Digest => Reply::Unserved,
-        Line::Lend { rows: _, cells: _ } => Reply::Unserved,
+            lat1: _,
+            lon1: _,
+            lat2: _,
+            lon2: _,
+        } => View::Plain,
+        Line::Horizon { a: _, b: _ } => View::Plain,
+        Line::Bucket(_) => View::Plain,
+        Line::Bit { address: _ } => View::Plain,
+        Line::Digest => View::Plain,
+        Line::Lend { rows: _, cells: _ } => View::Plain,
         Line::Row {
             at: _,
             part: _,
             prev: _,
             next: _,
-        } => Reply::Unserved,
-        Line::Cell { at: _, word: _ } => Reply::Unserved,
+        } => View::Plain,
+        Line::Cell { at: _, word: _ } => View::Plain,
         Line::Ends {
             first: _,
             last: _,
             free: _,
-        } => Reply::Unserved,
+        } => View::Plain,
     }
+}
+
+// What a line comes to.
+fn line(
+    z: Size,
+    rows: &mut [u64],
+    cells: &mut [u32],
+    ends: &mut [u32; 3],
+    asked: Line,
+    key: Key,
+) -> Told
+    requires { ⌜ Within z (now rows) (now cells) × Room (now rows) (now cells) ⌝ }
+    ensures { λ r. ⌜ Ran asked (key .bytes) z (now (rows .entry)) (now (cells .entry)) (now (ends .entry)) (now (rows .exit)) (now (cells .exit)) (now (ends .exit)) r ⌝ }
+{
+    match view_of(asked) {
+        View::Call(c) => call(z, rows, cells, ends, c, key),
+        View::Watch(c) => open(z, rows, cells, ends, c),
+        View::Plain => plain(z, single::answer(asked)),
+    }
+}
+
+// The same of a line and its key; the watch stays within what is lent.
+pub fn answer(z: Size, rows: &mut [u64], cells: &mut [u32], ends: &mut [u32; 3], said: Said) -> Told
+    requires { ⌜ Within z (now rows) (now cells) × Room (now rows) (now cells) ⌝ }
+    ensures { λ r. ⌜ (Ran (said .line) (said .key) z (now (rows .entry)) (now (cells .entry)) (now (ends .entry)) (now (rows .exit)) (now (cells .exit)) (now (ends .exit)) r) × Within (r .size) (now (rows .exit)) (now (cells .exit)) ⌝ }
+{
+    let asked = said.line;
+    let k = said.key;
+    line(z, rows, cells, ends, asked, key_of(k))
 }

@@ -1,10 +1,10 @@
--- `session::same` meets its contract. `same_place` asks that both sites are within degrees, which the two tests showed; each way out is a law of `Answers`.
+-- `session::single::same` meets its contract. `same_place` asks that both sites are within degrees, which the two tests showed; each way out is a law of `Answers`.
 use mathlib.Core.Path.{sym, _∙_, subst}
 use borrow.Author.Needs.{needs}
 use lib.Dec.{T}
 use Rattle.session.proofs.Answers.{same-is, same-second, same-first}
-use Rattle.session.proofs.same.Statement.{statement}
-use Rattle.session.proofs.same.Tie as tie
+use Rattle.session.proofs.single.same.Statement.{statement}
+use Rattle.session.proofs.single.same.Tie as tie
 
 in-degrees-requires : tie.Need-in-degrees-requires
 in-degrees-requires c κs = search needs

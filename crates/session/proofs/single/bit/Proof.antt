@@ -1,10 +1,10 @@
--- `session::bit` meets its contract. Of a power of two the zeros below the bit are counted, as in `bitOf`.
+-- `session::single::bit` meets its contract. Of a power of two the zeros below the bit are counted, as in `bitOf`.
 use mathlib.Core.Path.{ap}
 use borrow.Author.Needs.{needs}
 use lib.Count.{trailingZeros}
 use Rattle.session.specs.Replies.{bitOf}
-use Rattle.session.proofs.bit.Statement.{statement}
-use Rattle.session.proofs.bit.Tie as tie
+use Rattle.session.proofs.single.bit.Statement.{statement}
+use Rattle.session.proofs.single.bit.Tie as tie
 
 aircraft-bit-requires : tie.Need-aircraft-bit-requires
 aircraft-bit-requires c κs = search needs
