@@ -73,15 +73,23 @@ fn unasked() -> Result<Option<String>, String> {
         let built = "`rt check calls` builds it; SITING_CALLS names another";
         return Ok(Some(format!("{} is not there ({built})", path.display())));
     }
-    let answer = program::ask("watch 1\nfresh\n")?;
-    match answer.lines().next().unwrap_or("no answer") {
-        "ok" => Ok(None),
-        unknown if unknown.starts_with("error 1: unknown call") => {
+    // A list has every kind of line, so a program is asked once it knows them all.
+    let answer = program::ask(EVERY_LINE)?;
+    match answer
+        .lines()
+        .find(|line| *line != "ok" && !line.starts_with("digest "))
+    {
+        None => Ok(None),
+        Some(unknown) if unknown.starts_with("error ") => {
             Ok(Some(format!("{}: {unknown}", path.display())))
         }
-        other => Err(format!("{}: `{other}` to fresh", path.display())),
+        Some(other) => Err(format!("{}: `{other}` to fresh", path.display())),
     }
 }
+
+/// A line of each kind that says something of a watch.
+const EVERY_LINE: &str =
+    "watch 1\nfresh\ndigest\nlend 1 3344\nrow 0 1 - 0 - - - - -\ncell 0 65280\nends - - 0\nfresh\n";
 
 /// Makes one list; its text and the answers wanted.
 pub fn made(seed: u64, name: &str, maker: Maker, log: &mut Log) -> (String, Wants) {
