@@ -20,7 +20,7 @@ fn main() {
     };
     // The archive's index lists its functions, each name ended by a zero byte.
     let has = |name: &str| {
-        let name = [b"\0", name.as_bytes(), b"\0"].concat();
+        let name = [name.as_bytes(), b"\0"].concat();
         bytes.windows(name.len()).any(|part| part == name)
     };
     if has("probe_judge") {
