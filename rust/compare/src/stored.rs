@@ -44,7 +44,7 @@ fn short(at: Degrees) -> Degrees {
 fn day<'a>(rng: &mut Rng, log: &'a mut Log) -> Script<'a> {
     let (right, wrong) = (key(0xA1), key(0xB2));
     let mut s = Script::new(4, log).headed(&[
-        "A day of two receivers, from six in the morning on. Run it: ./run samples/day.txt",
+        "A day of two receivers, from six in the morning on; `cargo test -p compare` in rust/ replays it",
         "Both antennas stand at 51.4775 -0.4614 and hear aircraft up to 40 km away.",
         "a1 claims that site. b2 claims one that is 60 km to the west-south-west of it.",
         "The watch has room for four receivers.",
