@@ -1,4 +1,3 @@
-pub mod Types
 pub mod Laws
 pub mod Scans
 pub mod Tables

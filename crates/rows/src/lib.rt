@@ -1,16 +1,14 @@
-// The rows of a lent watch in their order of use: a chain of used rows, the least recently used first, and a chain of free rows, both
-// through the links of one slice. Nothing here asks for anything: a link that is no row's number reads as the unmade row, and a store there
-// changes nothing. The three ends go in and out by value.
+// The rows of a lent watch in their order of use: a chain of used rows, the least recently used first, and a chain of free rows. Here are
+// the row, the ends and the steps on them, by value; crates `records` and `lent` read rows from what is lent and store them there.
 ghost use mathlib.Core.Path.{_≡_};
 ghost use mathlib.Core.Bool.{true, false, cond, not, _&&_, _||_};
-ghost use Prim.Native.Nat.{_<_, _+_, _-_};
-ghost use lib.Dec.{eqb, leb};
-ghost use lib.ListN.{length, set, getD};
+ghost use Prim.Native.Nat.{_+_, _-_};
+ghost use lib.Dec.{eqb};
 ghost use Rattle.table.specs.Machine.{same};
 ghost use Rattle.table.specs.Rows.{NONE};
-ghost use Rattle.rows.specs.Read.{fits, Looked};
-ghost use Rattle.rows.specs.Links.{blank, unmade, withNext, withPrev, withLinks, withPart, nexted, preved, outEnds, unlinkedRows, unlinkedEnds, linkedRows, linkedEnds, withFree, releasedRows, releasedEnds, touchedRows, touchedEnds, markedRows, markedEnds, roomRows, roomEnds, madeRow, takenRows, takenEnds, enteredRows, enteredEnds, keptSeat, madeSeat, seatOf, seatedRows, freshOf, freshFrom, freshEnds};
-ghost use Rattle.rows.specs.Search.{sizesOf, backFits, firstFound, moreOf, stepOf, scanned, startOf, cameThrough, chainsOf, foundAt, lookOf, isNo, isUnfit, atOf, numberOf};
+ghost use Rattle.rows.specs.Read.{fits};
+ghost use Rattle.rows.specs.Links.{blank, unmade, withNext, withPrev, withLinks, withPart, outEnds, linkedEnds, withFree, madeRow, keptSeat, madeSeat, freshOf, freshEnds};
+ghost use Rattle.rows.specs.Search.{sizesOf, backFits, firstFound, moreOf, stepOf, startOf, cameThrough, chainsOf, foundAt, lookOf, isNo, isUnfit, atOf, numberOf};
 use receiver::Heard;
 use receiver::Judged;
 use receiver::Part;
@@ -65,18 +63,6 @@ pub fn is_none(x: u32) -> bool
     ensures { λ r. ⌜ r ≡ eqb x NONE ⌝ }
 {
     x == 4294967295
-}
-
-fn wide(x: u32) -> usize
-    ensures { λ r. ⌜ r ≡ x ⌝ }
-{
-    x as usize
-}
-
-fn outside(i: usize, n: usize) -> bool
-    ensures { λ r. ⌜ r ≡ leb n i ⌝ }
-{
-    n <= i
 }
 
 // Question 1: n rows with m cells.
@@ -160,60 +146,6 @@ pub fn made_row(old: Row, key: Key, part: Part) -> Row
     }
 }
 
-// ---- a row of the table
-
-fn row_at(rows: &[Row], i: usize) -> Row
-    requires { ⌜ i < length (now rows) ⌝ }
-    ensures { λ r. ⌜ r ≡ getD (now (rows .entry)) i blank ⌝ }
-{
-    rows[i]
-}
-
-fn put_row(rows: &mut [Row], i: usize, row: Row)
-    requires { ⌜ i < length (now rows) ⌝ }
-    ensures { λ _. ⌜ now (rows .exit) ≡ set (now (rows .entry)) i row ⌝ }
-{
-    rows[i] = row;
-}
-
-// A link's row; the unmade one for a link that is no row's number.
-pub fn get(rows: &[Row], at: u32) -> Row
-    ensures { λ r. ⌜ r ≡ getD (now (rows .entry)) at blank ⌝ }
-{
-    let i = wide(at);
-    let bad = outside(i, rows.len());
-    if bad {
-        return unmade();
-    }
-    row_at(rows, i)
-}
-
-// A store at a link; none for a link that is no row's number.
-pub fn put(rows: &mut [Row], at: u32, row: Row)
-    ensures { λ _. ⌜ now (rows .exit) ≡ set (now (rows .entry)) at row ⌝ }
-{
-    let i = wide(at);
-    let bad = outside(i, rows.len());
-    if bad {
-        return;
-    }
-    put_row(rows, i, row);
-}
-
-fn set_next(rows: &mut [Row], at: u32, n: u32)
-    ensures { λ _. ⌜ now (rows .exit) ≡ nexted (now (rows .entry)) at n ⌝ }
-{
-    let row = get(rows, at);
-    put(rows, at, with_next(row, n));
-}
-
-fn set_prev(rows: &mut [Row], at: u32, n: u32)
-    ensures { λ _. ⌜ now (rows .exit) ≡ preved (now (rows .entry)) at n ⌝ }
-{
-    let row = get(rows, at);
-    put(rows, at, with_prev(row, n));
-}
-
 // ---- the ends, by value
 
 // x where a is none, else y
@@ -288,94 +220,6 @@ pub fn same_ends(e: Ends) -> Ends
     e
 }
 
-// ---- steps on the chains
-
-// Takes row i out of the used chain, leaving its part.
-fn unlink(rows: &mut [Row], e: Ends, i: u32) -> Ends
-    ensures { λ r. ⌜ (r ≡ unlinkedEnds (now (rows .entry)) e i) × (now (rows .exit) ≡ unlinkedRows (now (rows .entry)) i) ⌝ }
-{
-    let row = get(rows, i);
-    let p = prev_of(row);
-    let n = next_of(row);
-    set_next(rows, p, n);
-    set_prev(rows, n, p);
-    out_ends(e, p, n)
-}
-
-// Puts row i last in the used chain: the most recently used.
-fn link_last(rows: &mut [Row], e: Ends, i: u32) -> Ends
-    ensures { λ r. ⌜ (r ≡ linkedEnds e i) × (now (rows .exit) ≡ linkedRows (now (rows .entry)) e i) ⌝ }
-{
-    let t = tail_of(e);
-    let row = get(rows, i);
-    put(rows, i, with_links(row, t, no_row()));
-    set_next(rows, t, i);
-    linked_ends(e, i)
-}
-
-// Takes row i out of the used chain and frees it: it becomes as fresh, and heads the free chain.
-pub fn release(rows: &mut [Row], e: Ends, i: u32) -> Ends
-    ensures { λ r. ⌜ (r ≡ releasedEnds (now (rows .entry)) e i) × (now (rows .exit) ≡ releasedRows (now (rows .entry)) e i) ⌝ }
-{
-    let d = unlink(rows, e, i);
-    put(rows, i, unmade_row(free_of(e)));
-    with_free(d, i)
-}
-
-// Marks row i: it is freed after every row marked longer ago.
-fn touch(rows: &mut [Row], e: Ends, i: u32) -> Ends
-    ensures { λ r. ⌜ (r ≡ touchedEnds (now (rows .entry)) e i) × (now (rows .exit) ≡ touchedRows (now (rows .entry)) e i) ⌝ }
-{
-    let d = unlink(rows, e, i);
-    link_last(rows, d, i)
-}
-
-// Row i gets a part, and is marked.
-pub fn mark(rows: &mut [Row], e: Ends, i: u32, part: Part) -> Ends
-    ensures { λ r. ⌜ (r ≡ markedEnds (now (rows .entry)) e i part) × (now (rows .exit) ≡ markedRows (now (rows .entry)) e i part) ⌝ }
-{
-    let row = get(rows, i);
-    put(rows, i, with_part(row, part));
-    touch(rows, e, i)
-}
-
-// With no row free, frees the least recently used.
-fn make_room(rows: &mut [Row], e: Ends) -> Ends
-    ensures { λ r. ⌜ (r ≡ roomEnds (now (rows .entry)) e) × (now (rows .exit) ≡ roomRows (now (rows .entry)) e) ⌝ }
-{
-    let spare = has_free(e);
-    if spare {
-        return same_ends(e);
-    }
-    release(rows, e, head_of(e))
-}
-
-// The first free row is taken for the key, and is the most recently used.
-fn take_free(rows: &mut [Row], e: Ends, key: Key, part: Part) -> Ends
-    ensures { λ r. ⌜ (r ≡ takenEnds (now (rows .entry)) e) × (now (rows .exit) ≡ takenRows (now (rows .entry)) e key part) ⌝ }
-{
-    let i = free_of(e);
-    let old = get(rows, i);
-    put(rows, i, made_row(old, key, part));
-    let n = next_of(old);
-    link_last(rows, with_free(e, n), i)
-}
-
-// A row is made for the key, where no row is free in place of the least recently used.
-fn enter(rows: &mut [Row], e: Ends, key: Key, part: Part) -> Ends
-    ensures { λ r. ⌜ (r ≡ enteredEnds (now (rows .entry)) e) × (now (rows .exit) ≡ enteredRows (now (rows .entry)) e key part) ⌝ }
-{
-    let d = make_room(rows, e);
-    take_free(rows, d, key, part)
-}
-
-// The least recently used row.
-pub fn oldest(rows: &[Row], e: Ends) -> Row
-    ensures { λ r. ⌜ r ≡ getD (now (rows .entry)) (e .head) blank ⌝ }
-{
-    get(rows, head_of(e))
-}
-
 // ---- a claim's row
 
 // The ends after a claim, its row's number, whether the row was made for it, and the key that it pushed out, if any.
@@ -414,21 +258,6 @@ pub fn made_seat(e: Ends, old: Row, d: Ends) -> Seat
     }
 }
 
-// Writes the key's part and marks its row, in one step: the row that was found, or one that is made.
-pub fn insert_active(rows: &mut [Row], e: Ends, l: Look, key: Key, part: Part) -> Seat
-    ensures { λ r. ⌜ (r ≡ seatOf (now (rows .entry)) e l part) × (now (rows .exit) ≡ seatedRows (now (rows .entry)) e l key part) ⌝ }
-{
-    let new = is_no(l);
-    if new {
-        let old = oldest(rows, e);
-        let d = enter(rows, e, key, part);
-        return made_seat(e, old, d);
-    }
-    let i = at_of(l);
-    let f = mark(rows, e, i, part);
-    kept_seat(f, i)
-}
-
 // ---- the scan of a chain, and questions 1 to 3
 
 // Where a scan stands, on how many rows it may go, and what it has seen: do the back links fit (asked if `back`), is every part sound, and
@@ -460,12 +289,6 @@ pub fn more(s: Cursor, n: usize) -> bool
         return (s.at as usize) < n;
     }
     false
-}
-
-fn place(s: Cursor) -> usize
-    ensures { λ r. ⌜ r ≡ s .at ⌝ }
-{
-    s.at as usize
 }
 
 pub fn same_key(a: [u8; 32], b: [u8; 32]) -> bool
@@ -539,18 +362,6 @@ pub fn step(s: Cursor, row: Row) -> Cursor
         found: found,
         key: k,
     }
-}
-
-fn scan(rows: &[Row], s: Cursor) -> Cursor
-    ensures { λ r. ⌜ r ≡ scanned (now (rows .entry)) s ⌝ }
-{
-    let mut c = s;
-    while more(c, rows.len()) {
-        let i = place(c);
-        let row = row_at(rows, i);
-        c = step(c, row);
-    }
-    c
 }
 
 fn start(n: usize, at: u32, back: bool, key: Key) -> Cursor
@@ -667,20 +478,6 @@ pub fn no_one() -> Look
     Look::No(1)
 }
 
-// Questions 1 and 2 of the rows with m cells, and the row with the key. Each row is read once.
-pub fn look_up(rows: &[Row], m: usize, e: Ends, key: Key) -> Look
-    ensures { λ r. ⌜ Looked (now (rows .entry)) m e key r ⌝ }
-{
-    let fit = sizes_fit(rows.len(), m);
-    let bad = negated(fit);
-    if bad {
-        return no_one();
-    }
-    let used = scan(rows, used_start(rows.len(), e, key));
-    let free = scan(rows, free_start(rows.len(), e, key));
-    look_of(rows.len(), e, used, free)
-}
-
 pub fn is_no(l: Look) -> bool
     ensures { λ r. ⌜ r ≡ isNo l ⌝ }
 {
@@ -718,13 +515,6 @@ pub fn number_of(l: Look) -> u8
     }
 }
 
-// The row that was found; the unmade one where none was.
-pub fn found(rows: &[Row], l: Look) -> Row
-    ensures { λ r. ⌜ r ≡ getD (now (rows .entry)) (atOf l) blank ⌝ }
-{
-    get(rows, at_of(l))
-}
-
 // ---- fresh rows
 
 // Row i of n.
@@ -740,17 +530,6 @@ pub fn fresh_row(n: usize, i: usize) -> Row
         return unmade_row(t as u32);
     }
     unmade_row(none)
-}
-
-// Every row becomes fresh, in the free chain in ascending number.
-pub fn fresh_rows(rows: &mut [Row], n: usize)
-    ensures { λ _. ⌜ now (rows .exit) ≡ freshFrom n 0 (length (now (rows .entry))) ⌝ }
-{
-    let mut i = 0;
-    while i < rows.len() {
-        put_row(rows, i, fresh_row(n, i));
-        i = i + 1;
-    }
 }
 
 pub fn fresh_ends() -> Ends
