@@ -1,7 +1,7 @@
-# What tools/walk.py is told of crate `watch` (see its head). What the functions of crate `rows` ensure is said in rows.py.
+# What tools/walk.py is told of crate `watch` (see its head). What the functions of crates `rows` and `records` ensure is said in records.py.
 import os, runpy
 
-ROWS = runpy.run_path(os.path.join(os.path.dirname(os.path.abspath(__file__)), 'rows.py'))
+ROWS = runpy.run_path(os.path.join(os.path.dirname(os.path.abspath(__file__)), 'records.py'))
 USES = '''
 use mathlib.Core.Bool.{Bool, true, false, cond, not, _||_}
 use lib.Dec.{leb, eqb}
@@ -15,7 +15,7 @@ use Rattle.rows.specs.declared.Look.{Look}
 use Rattle.rows.specs.Read.{Looked, endsIs, endsOf}
 use Rattle.rows.specs.Links.{blank, unmade, withNext, withPrev, withLinks, withPart, nexted, preved, outEnds, unlinkedRows, unlinkedEnds, linkedRows, linkedEnds, withFree, releasedRows, releasedEnds, touchedRows, touchedEnds, markedRows, markedEnds, roomRows, roomEnds, takenRows, takenEnds, enteredRows, enteredEnds, madeRow, keptSeat, madeSeat, seatOf, seatedRows, freshFrom, freshEnds}
 use Rattle.rows.specs.Search.{sizesOf, startOf, scanned, lookOf, isNo, atOf, isUnfit, numberOf}
-use Rattle.rows.proofs.Types.{R, index, link, row, ends, key, part, seat, looked}
+use Rattle.records.proofs.Types.{R, index, link, row, ends, key, part, seat, looked}
 use Rattle.watch.proofs.Types.{answer-datum, move-datum, count-datum, claimed-datum, claiming-datum, hearing-datum, position-datum, judgment-datum, heard-datum}
 use lib.ListN.{take, drop, replicate}
 use lib.Seq.{sets}
@@ -26,14 +26,14 @@ use Rattle.near_field.specs.declared.Judgment.{Judgment}
 use Rattle.receiver.specs.declared.Position.{Position}
 use Rattle.receiver.specs.Heard.{width, emptyCells, siteFits, claimed, positioned}
 use Rattle.receiver.specs.Answers.{claimingIs, hearingIs, HearingFits}
-use Rattle.watch.specs.Answers.{noKey, saying, freeing, checkAnswer, isRefused, claimPart, isUnheard, hearNo, hearPart}
-use Rattle.watch.specs.Moves.{emptiedAt, staying, seatMove, ClaimedRow, by-look, countedAt, HeardRow, judgedAt, judgedRow, judgedAs, judgedRows, checkedAs, removeMove, removedRows, oldestLook}
-use Rattle.watch.proofs.Looked.{held-site, fit-site, look-room}
-use Rattle.watch.proofs.Entries.{claim-left, claim-kept, hear-none, hear-left, hear-kept, judge-none, judge-kept, check-none, check-kept, remove-none, remove-kept, check-so, judging-so, take-room, take-so, drop-room, drop-so, claim-room, claim-so, position-room, position-so}
-use Rattle.watch.proofs.Making.{fresh-no, fresh-yes}
+use Rattle.moves.specs.Answers.{noKey, saying, freeing, checkAnswer, isRefused, claimPart, isUnheard, hearNo, hearPart}
+use Rattle.moves.specs.Moves.{emptiedAt, staying, seatMove, ClaimedRow, by-look, countedAt, HeardRow, judgedAt, judgedRow, judgedAs, judgedRows, checkedAs, removeMove, removedRows, oldestLook}
+use Rattle.moves.proofs.Looked.{held-site, fit-site, look-room}
+use Rattle.moves.proofs.Entries.{claim-left, claim-kept, hear-none, hear-left, hear-kept, judge-none, judge-kept, check-none, check-kept, remove-none, remove-kept, check-so, judging-so, take-room, take-so, drop-room, drop-so, claim-room, claim-so, position-room, position-so}
+use Rattle.moves.proofs.Making.{fresh-no, fresh-yes}
 use Rattle.rows.specs.declared.Look.the-variants as L
 use Rattle.receiver.specs.declared.Hearing.the-variants as Hearings
-use Rattle.watch.specs.declared.Word.the-variants as Wd
+use Rattle.moves.specs.declared.Word.the-variants as Wd
 '''
 TYPES = {'Row': 'row', 'Ends': 'ends', 'Key': 'key', 'Part': 'part', 'Seat': 'seat', 'Look': 'looked', 'Answer': 'answer-datum', 'Claimed': 'claimed-datum', 'Claiming': 'claiming-datum', 'Hearing': 'hearing-datum',
     'Position': 'position-datum', 'Judgment': 'judgment-datum', 'Heard': 'heard-datum', 'Move': 'move-datum', 'Count': 'count-datum', 'tyInt 64': 'index', 'tyInt 32': 'link', 'tyBool': 'truth', 'tyUnit': 'none'}

@@ -1,5 +1,5 @@
 -- One law for each way out of a function over the lent words: the equations of its calls, put together, are the step on the rows. Facts on lists of
--- rows alone; the laws of the calls themselves are crate `watch`'s.
+-- rows alone; the laws of the calls themselves are crate `moves`'s.
 use mathlib.Core.Path.{_≡_, refl, sym, ap, ap₂, _∙_, subst}
 use Prim.Native.Nat.{ℕ, _<_}
 use mathlib.Core.Bool.{Bool, true, false, not}
@@ -29,13 +29,13 @@ use Rattle.rows.specs.Search.{sizesOf, moreOf, stepOf, scanned, startOf, lookOf
 use Rattle.rows.proofs.Looks.{looks, looks-not}
 use Rattle.rows.proofs.Scans.{goes-on, stops}
 use Rattle.rows.proofs.Tables.{room-no, room-yes, seat-made, seat-kept}
-use Rattle.watch.specs.declared.Word.the-variants as Wd
-use Rattle.watch.specs.declared.Answer.{Answer}
-use Rattle.watch.specs.declared.Move.{Move}
-use Rattle.watch.specs.declared.Count.{Count}
-use Rattle.watch.specs.Answers.{noKey, saying, freeing}
-use Rattle.watch.specs.Moves.{staying, seatMove, ClaimedRow, by-look, judgedRow, judgedAs, judgedRows, removeMove, removedRows}
-use Rattle.watch.proofs.Entries.{judge-none, judge-kept, remove-none, remove-kept}
+use Rattle.moves.specs.declared.Word.the-variants as Wd
+use Rattle.moves.specs.declared.Answer.{Answer}
+use Rattle.moves.specs.declared.Move.{Move}
+use Rattle.moves.specs.declared.Count.{Count}
+use Rattle.moves.specs.Answers.{noKey, saying, freeing}
+use Rattle.moves.specs.Moves.{staying, seatMove, ClaimedRow, by-look, judgedRow, judgedAs, judgedRows, removeMove, removedRows}
+use Rattle.moves.proofs.Entries.{judge-none, judge-kept, remove-none, remove-kept}
 use Rattle.lent.specs.Refusal.{isRefusal, Untouched}
 
 -- STEPS ON THE CHAINS
@@ -185,7 +185,7 @@ module _ (xs : List Row) (e : Ends) (l : Look) (p : Part) (t : Bool) (test : t �
   pub kept-rows-are : (k : Key) (i : ℕ) (zs : List Row) → t ≡ false → i ≡ atOf l → zs ≡ markedRows xs e i p → zs ≡ seatedRows xs e l k p
   kept-rows-are k i zs h j a = seat-kept xs e l k p i (markedEnds xs e i p) zs (keptSeat (markedEnds xs e i p) i) (sym test ∙ h) j (refl, a) refl .1
 
--- JUDGING, TAKE-OUT, DROP-OLDEST: one part each of the ways out of crate `watch`
+-- JUDGING, TAKE-OUT, DROP-OLDEST: one part each of the ways out of crate `moves`
 module _ (l : Look) (j : Judgment) (t : Bool) (test : t ≡ isNo l) where
   pub unjudged-answer : (r : Answer) → t ≡ true → r ≡ saying (Wd.Refused (numberOf l)) → r ≡ judgedAs l j
   unjudged-answer r h a = judge-none [] l j r (sym test ∙ h) a .0

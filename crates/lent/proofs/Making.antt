@@ -19,10 +19,10 @@ use Rattle.rows.specs.Read.{endsOf, endsIs, watchIs}
 use Rattle.rows.specs.Links.{freshOf, freshFrom, freshEnds}
 use Rattle.rows.specs.Search.{sizesOf}
 use Rattle.rows.proofs.Making.{fills-all}
-use Rattle.watch.specs.declared.Word.the-variants as Wd
-use Rattle.watch.specs.declared.Answer.{Answer}
-use Rattle.watch.specs.Answers.{outcome, saying}
-use Rattle.watch.proofs.Making.{fresh-no, fresh-yes}
+use Rattle.moves.specs.declared.Word.the-variants as Wd
+use Rattle.moves.specs.declared.Answer.{Answer}
+use Rattle.moves.specs.Answers.{outcome, saying}
+use Rattle.moves.proofs.Making.{fresh-no, fresh-yes}
 
 -- THE LOOP: n rows xs, of which the first i are made, ys
 abbrev pub Made : ℕ → ℕ → List Row → List Row → Type 0

@@ -4,9 +4,9 @@ use mathlib.Core.Path.{_≡_}
 use Prim.Native.Nat.{ℕ}
 use mathlib.Core.Bool.{Bool, true, false}
 use mathlib.Core.List.{List}
-use Rattle.watch.specs.declared.Word.{Word}
-use Rattle.watch.specs.declared.Word.the-variants as Wd
-use Rattle.watch.specs.declared.Answer.{Answer}
+use Rattle.moves.specs.declared.Word.{Word}
+use Rattle.moves.specs.declared.Word.the-variants as Wd
+use Rattle.moves.specs.declared.Answer.{Answer}
 
 -- the word is a question's number
 abbrev pub isNumber : Word → Bool

@@ -10,9 +10,12 @@ ghost use Rattle.rows.specs.Read.{watchIs, Looked};
 ghost use Rattle.rows.specs.Links.{blank, unlinkedRows, unlinkedEnds, linkedRows, linkedEnds, releasedRows, releasedEnds, touchedRows, touchedEnds, markedRows, markedEnds, roomRows, roomEnds, takenRows, takenEnds, enteredRows, enteredEnds, seatOf, seatedRows, freshFrom};
 ghost use Rattle.rows.specs.Search.{scanned, isNo, isUnfit, atOf};
 ghost use Rattle.flat.specs.Table.{rowsOf};
-ghost use Rattle.watch.specs.Answers.{outcome};
-ghost use Rattle.watch.specs.Moves.{ClaimedRow, HeardRow, judgedAs, judgedRows, checkedAs, removeMove, removedRows};
+ghost use Rattle.moves.specs.Answers.{outcome};
+ghost use Rattle.moves.specs.Moves.{ClaimedRow, HeardRow, judgedAs, judgedRows, checkedAs, removeMove, removedRows};
 ghost use Rattle.lent.specs.Refusal.{Untouched};
+use moves::Answer;
+use moves::Count;
+use moves::Move;
 use near_field::Judgment;
 use receiver::Heard;
 use receiver::Part;
@@ -24,9 +27,6 @@ use rows::Look;
 use rows::Row;
 use rows::Seat;
 use sites::Claimed;
-use watch::Answer;
-use watch::Count;
-use watch::Move;
 
 // ---- steps on the chains
 
@@ -175,17 +175,17 @@ fn check_row(rows: &[u64], l: Look) -> Answer
 {
     let bad = rows::is_no(l);
     if bad {
-        return watch::no_to(l);
+        return moves::no_to(l);
     }
     let row = found(rows, l);
-    watch::check_answer(row)
+    moves::check_answer(row)
 }
 
 // What is held of the key's site. This marks nothing.
 pub fn check(rows: &mut [u64], cells: &mut [u32], ends: &mut [u32; 3], key: Key) -> Answer
     ensures { λ r. ⌜ (outcome r (rowsOf (now (rows .exit))) (now (cells .exit)) (now (ends .exit)) ≡ calls.callOn (watchIs (rowsOf (now (rows .entry))) (now (cells .entry)) (now (ends .entry))) (key .bytes) calls.check) × Untouched r (now (rows .entry)) (now (rows .exit)) ⌝ }
 {
-    let e = watch::ends_of(ends);
+    let e = moves::ends_of(ends);
     let l = look_up(rows, cells.len(), e, key);
     check_row(rows, l)
 }
@@ -198,38 +198,38 @@ fn remove(rows: &mut [u64], e: Ends, l: Look) -> Move
 {
     let bad = rows::is_no(l);
     if bad {
-        return watch::unfit_move(e, l);
+        return moves::unfit_move(e, l);
     }
     let i = rows::at_of(l);
     let row = flat::get(rows, i);
     let d = release(rows, e, i);
-    watch::moving(d, l, watch::freed_row(row))
+    moves::moving(d, l, moves::freed_row(row))
 }
 
 // The key's row is freed.
 pub fn take_out(rows: &mut [u64], cells: &mut [u32], ends: &mut [u32; 3], key: Key) -> Answer
     ensures { λ r. ⌜ (outcome r (rowsOf (now (rows .exit))) (now (cells .exit)) (now (ends .exit)) ≡ calls.callOn (watchIs (rowsOf (now (rows .entry))) (now (cells .entry)) (now (ends .entry))) (key .bytes) calls.takeOut) × Untouched r (now (rows .entry)) (now (rows .exit)) ⌝ }
 {
-    let e = watch::ends_of(ends);
+    let e = moves::ends_of(ends);
     let l = look_up(rows, cells.len(), e, key);
     let m = remove(rows, e, l);
-    watch::empty_move(cells, m);
-    watch::keep_move(ends, m);
-    watch::answer_of(m)
+    moves::empty_move(cells, m);
+    moves::keep_move(ends, m);
+    moves::answer_of(m)
 }
 
 // The least recently used row is freed.
 pub fn drop_oldest(rows: &mut [u64], cells: &mut [u32], ends: &mut [u32; 3]) -> Answer
     ensures { λ r. ⌜ (outcome r (rowsOf (now (rows .exit))) (now (cells .exit)) (now (ends .exit)) ≡ calls.dropOldest (watchIs (rowsOf (now (rows .entry))) (now (cells .entry)) (now (ends .entry)))) × Untouched r (now (rows .entry)) (now (rows .exit)) ⌝ }
 {
-    let e = watch::ends_of(ends);
-    let k = watch::zero_key();
+    let e = moves::ends_of(ends);
+    let k = moves::zero_key();
     let l = look_up(rows, cells.len(), e, k);
-    let o = watch::oldest_of(l, e);
+    let o = moves::oldest_of(l, e);
     let m = remove(rows, e, o);
-    watch::empty_move(cells, m);
-    watch::keep_move(ends, m);
-    watch::answer_of(m)
+    moves::empty_move(cells, m);
+    moves::keep_move(ends, m);
+    moves::answer_of(m)
 }
 
 // ---- judging
@@ -238,7 +238,7 @@ pub fn drop_oldest(rows: &mut [u64], cells: &mut [u32], ends: &mut [u32; 3]) -> 
 fn heard_at(rows: &[u64], l: Look) -> Heard
     ensures { λ r. ⌜ r ≡ getD (rowsOf (now (rows .entry))) (atOf l) blank .part .heard ⌝ }
 {
-    watch::heard_in(found(rows, l))
+    moves::heard_in(found(rows, l))
 }
 
 // The judgment is kept by the row that was found.
@@ -247,13 +247,13 @@ fn judge_row(rows: &mut [u64], l: Look, j: Judgment) -> Answer
 {
     let bad = rows::is_no(l);
     if bad {
-        return watch::no_to(l);
+        return moves::no_to(l);
     }
     let i = rows::at_of(l);
     let row = flat::get(rows, i);
-    let judged = watch::judged_part(row, j);
+    let judged = moves::judged_part(row, j);
     flat::put(rows, i, judged);
-    watch::judged(j)
+    moves::judged(j)
 }
 
 // The key's claim is judged by what was heard. This marks nothing.
@@ -267,10 +267,10 @@ pub fn judging(
 ) -> Answer
     ensures { λ r. ⌜ (outcome r (rowsOf (now (rows .exit))) (now (cells .exit)) (now (ends .exit)) ≡ calls.callOn (watchIs (rowsOf (now (rows .entry))) (now (cells .entry)) (now (ends .entry))) (key .bytes) (calls.judging «now_ms» aircraft)) × Untouched r (now (rows .entry)) (now (rows .exit)) ⌝ }
 {
-    let e = watch::ends_of(ends);
+    let e = moves::ends_of(ends);
     let l = look_up(rows, cells.len(), e, key);
     let h = heard_at(rows, l);
-    let j = watch::judge_at(cells, l, h, now_ms, aircraft);
+    let j = moves::judge_at(cells, l, h, now_ms, aircraft);
     judge_row(rows, l, j)
 }
 
@@ -283,18 +283,18 @@ fn hear_row(rows: &mut [u64], e: Ends, l: Look, p: Position) -> Count
 {
     let bad = rows::is_no(l);
     if bad {
-        return watch::uncounted(e, l);
+        return moves::uncounted(e, l);
     }
     let row = found(rows, l);
     let i = rows::at_of(l);
-    let h = watch::hear(row, p);
-    let no = watch::is_unheard(h);
+    let h = moves::hear(row, p);
+    let no = moves::is_unheard(h);
     if no {
-        return watch::unheard(e, i, h);
+        return moves::unheard(e, i, h);
     }
-    let part = watch::hear_part(row, h);
+    let part = moves::hear_part(row, h);
     let d = mark(rows, e, i, part);
-    watch::counted(d, i, h)
+    moves::counted(d, i, h)
 }
 
 // The key's receiver has heard an aircraft.
@@ -307,12 +307,12 @@ pub fn position(
 ) -> Answer
     ensures { λ r. ⌜ (outcome r (rowsOf (now (rows .exit))) (now (cells .exit)) (now (ends .exit)) ≡ calls.callOn (watchIs (rowsOf (now (rows .entry))) (now (cells .entry)) (now (ends .entry))) (key .bytes) (calls.position p)) × Untouched r (now (rows .entry)) (now (rows .exit)) ⌝ }
 {
-    let e = watch::ends_of(ends);
+    let e = moves::ends_of(ends);
     let l = look_up(rows, cells.len(), e, key);
     let c = hear_row(rows, e, l, p);
-    watch::count_at(cells, c);
-    watch::keep_count(ends, c);
-    watch::answered(c)
+    moves::count_at(cells, c);
+    moves::keep_count(ends, c);
+    moves::answered(c)
 }
 
 // ---- claim
@@ -324,17 +324,17 @@ fn claim_row(rows: &mut [u64], e: Ends, l: Look, key: Key, site: Claimed) -> Mov
 {
     let bad = rows::unfit(l);
     if bad {
-        return watch::unfit_move(e, l);
+        return moves::unfit_move(e, l);
     }
     let row = found(rows, l);
-    let c = watch::claiming(row, site);
-    let outside = watch::is_refused(c);
+    let c = moves::claiming(row, site);
+    let outside = moves::is_refused(c);
     if outside {
-        return watch::outside_move(e);
+        return moves::outside_move(e);
     }
-    let part = watch::claim_part(row, c);
+    let part = moves::claim_part(row, c);
     let s = insert_active(rows, e, l, key, part);
-    watch::seat_move(s, c)
+    moves::seat_move(s, c)
 }
 
 // The key's site is claimed, or none.
@@ -347,12 +347,12 @@ pub fn claim(
 ) -> Answer
     ensures { λ r. ⌜ (outcome r (rowsOf (now (rows .exit))) (now (cells .exit)) (now (ends .exit)) ≡ calls.callOn (watchIs (rowsOf (now (rows .entry))) (now (cells .entry)) (now (ends .entry))) (key .bytes) (calls.claim site)) × Untouched r (now (rows .entry)) (now (rows .exit)) ⌝ }
 {
-    let e = watch::ends_of(ends);
+    let e = moves::ends_of(ends);
     let l = look_up(rows, cells.len(), e, key);
     let m = claim_row(rows, e, l, key, site);
-    watch::empty_move(cells, m);
-    watch::keep_move(ends, m);
-    watch::answer_of(m)
+    moves::empty_move(cells, m);
+    moves::keep_move(ends, m);
+    moves::answer_of(m)
 }
 
 // ---- fresh
@@ -377,10 +377,10 @@ pub fn fresh(rows: &mut [u64], cells: &mut [u32], ends: &mut [u32; 3]) -> Answer
     let fit = rows::sizes_fit(n, cells.len());
     let bad = rows::negated(fit);
     if bad {
-        return watch::no_first();
+        return moves::no_first();
     }
     fresh_rows(rows, n);
-    watch::fresh_cells(cells);
-    watch::keep(ends, rows::fresh_ends());
-    watch::done()
+    moves::fresh_cells(cells);
+    moves::keep(ends, rows::fresh_ends());
+    moves::done()
 }

@@ -15,8 +15,8 @@ use Rattle.receiver.specs.declared.Part.{Part}
 use Rattle.receiver.specs.Calls.{Out}
 use Rattle.rows.specs.Read.{watchIs}
 use Rattle.flat.specs.Table.{rowsOf}
-use Rattle.watch.specs.Answers.{outcome}
-use Rattle.watch.specs.declared.Answer.{Answer}
+use Rattle.moves.specs.Answers.{outcome}
+use Rattle.moves.specs.declared.Answer.{Answer}
 use Rattle.grammar.specs.declared.Call.{Call}
 use Rattle.grammar.specs.declared.Call.the-variants as call
 use Rattle.session.specs.declared.Size.{Size}
@@ -28,7 +28,7 @@ use Rattle.session.specs.declared.View.{View}
 use Rattle.session.specs.declared.View.the-variants as view
 use Rattle.session.specs.declared.Told.{Told}
 use Rattle.rows.specs.declared.Key.{Key}
-use Rattle.watch.specs.declared.Word.the-variants as word
+use Rattle.moves.specs.declared.Word.the-variants as word
 use Rattle.session.specs.Replies.{replyOf}
 use Rattle.session.specs.Watches.{callBy, Within, Room, Called, Stays, Opened, OpenedBy, Answers, viewOf, RanBy, Ran, plainly, sizedOf, noKey, noEnds}
 

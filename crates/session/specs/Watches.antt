@@ -12,15 +12,15 @@ use Rattle.receiver.specs.declared.Part.{Part}
 use Rattle.receiver.specs.Calls.{Out, freshCall, dropOldest, callOn, check, takeOut, claim, position, judging}
 use Rattle.rows.specs.Read.{watchIs}
 use Rattle.flat.specs.Table.{rowsOf}
-use Rattle.watch.specs.Answers.{outcome}
-use Rattle.watch.specs.declared.Answer.{Answer}
+use Rattle.moves.specs.Answers.{outcome}
+use Rattle.moves.specs.declared.Answer.{Answer}
 use Rattle.grammar.specs.declared.Call.{Call}
 use Rattle.grammar.specs.declared.Call.the-variants as call
 use Rattle.grammar.specs.declared.Line.{Line}
 use Rattle.grammar.specs.declared.Line.the-variants as line
 use Rattle.grammar.specs.declared.Fault.the-variants as fault
 use Rattle.rows.specs.declared.Key.{Key}
-use Rattle.watch.specs.declared.Word.the-variants as word
+use Rattle.moves.specs.declared.Word.the-variants as word
 use Rattle.session.specs.Replies.{replyOf}
 use Rattle.session.specs.declared.Reply.{Reply}
 use Rattle.session.specs.declared.Reply.the-variants as reply

@@ -1,14 +1,14 @@
 // The seven calls on the watch that is lent: the first 23 × C words of the rows, the first N cells, and the ends.
 use crate::Size;
 use grammar::Call;
+use moves::Answer;
 use rows::Key;
-use watch::Answer;
 ghost use mathlib.Core.Path.{_≡_};
 ghost use Prim.Native.Nat.{_*_, _≤_};
 ghost use lib.ListN.{length};
 ghost use Rattle.rows.specs.Read.{watchIs};
 ghost use Rattle.flat.specs.Table.{rowsOf};
-ghost use Rattle.watch.specs.Answers.{outcome};
+ghost use Rattle.moves.specs.Answers.{outcome};
 ghost use Rattle.session.specs.Watches.{callBy, Within, Called};
 
 // One of the seven calls, on the words and cells of a watch.

@@ -20,10 +20,10 @@ use Rattle.receiver.specs.Calls.{Act, Out, claim, position, callOn}
 use Rattle.rows.specs.Read.{watchIs}
 use Rattle.flat.specs.Words.{keyWords, wordOf, eight}
 use Rattle.flat.specs.Table.{rowsOf}
-use Rattle.watch.specs.declared.Word.{Word}
-use Rattle.watch.specs.declared.Word.the-variants as Wd
-use Rattle.watch.specs.declared.Answer.{Answer}
-use Rattle.watch.specs.Answers.{answered, answerIs, outcome}
+use Rattle.moves.specs.declared.Word.{Word}
+use Rattle.moves.specs.declared.Word.the-variants as Wd
+use Rattle.moves.specs.declared.Answer.{Answer}
+use Rattle.moves.specs.Answers.{answered, answerIs, outcome}
 use Rattle.lent.specs.Refusal.{isNumber, isRefusal, Untouched}
 use Rattle.siting.specs.Replies.{altitudeBy, siteBy, feetBy, evidenceWord, plain, keyed, judgmentWords, generationWords, answerWords, isNo, Told}
 

@@ -7,9 +7,11 @@ ghost use Rattle.receiver.specs.Calls as calls;
 ghost use Rattle.rows.specs.Read.{watchIs};
 ghost use Rattle.flat.specs.Words.{keyOf, keyWords};
 ghost use Rattle.flat.specs.Table.{rowsOf};
-ghost use Rattle.watch.specs.Answers.{answerIs};
+ghost use Rattle.moves.specs.Answers.{answerIs};
 ghost use Rattle.siting.specs.Replies.{altitudeBy, siteBy, feetBy, evidenceWord, plain, keyed, judgmentWords, stateWords, generationWords, answerWords, Told};
 use cells::Height;
+use moves::Answer;
+use moves::Word;
 use near_field::Evidence;
 use near_field::Judgment;
 use receiver::CheckState;
@@ -18,8 +20,6 @@ use rows::Key;
 use sites::Altitude;
 use sites::Claimed;
 use sites::Site;
-use watch::Answer;
-use watch::Word;
 
 // ---- arguments
 

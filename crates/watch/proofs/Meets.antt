@@ -17,8 +17,8 @@ use Rattle.protection.specs.Promise.{Safe}
 use Rattle.protection.proofs.Promised.{promise}
 use Rattle.rows.specs.declared.Row.{Row}
 use Rattle.rows.specs.Read.{watchIs}
-use Rattle.watch.specs.declared.Answer.{Answer}
-use Rattle.watch.specs.Answers.{answerIs, outcome}
+use Rattle.moves.specs.declared.Answer.{Answer}
+use Rattle.moves.specs.Answers.{answerIs, outcome}
 
 -- a call that was run: what it answered, and the rows, cells and ends that it left
 pub record Run : Type 0 where

@@ -1,11 +1,11 @@
 -- The plain types of the calls, as walks handle them (`Datum` of crate `walks`); those of the rows are `rows`'.
 use Rattle.walks.proofs.Datum.{Datum, struct, enum}
-use Rattle.watch.proofs.Answer as Answer
-use Rattle.watch.proofs.Answer.Laws as Answer′
-use Rattle.watch.proofs.Move as Move
-use Rattle.watch.proofs.Move.Laws as Move′
-use Rattle.watch.proofs.Count as Count
-use Rattle.watch.proofs.Count.Laws as Count′
+use Rattle.moves.proofs.Answer as Answer
+use Rattle.moves.proofs.Answer.Laws as Answer′
+use Rattle.moves.proofs.Move as Move
+use Rattle.moves.proofs.Move.Laws as Move′
+use Rattle.moves.proofs.Count as Count
+use Rattle.moves.proofs.Count.Laws as Count′
 use Rattle.sites.proofs.Claimed as Claimed
 use Rattle.sites.proofs.Claimed.Laws as Claimed′
 use Rattle.receiver.proofs.Claiming as Claiming

@@ -1,6 +1,6 @@
 -- `lent::check` meets its contract: each way out is a law that is cited below, at what the calls came to.
 use Rattle.lent.proofs.Laws.{same-words}
-use Rattle.watch.proofs.Entries.{check-so}
+use Rattle.moves.proofs.Entries.{check-so}
 use Rattle.flat.specs.Table.{rowsOf}
 use borrow.Author.Needs.{needs}
 use Rattle.lent.proofs.check.Statement.{statement}

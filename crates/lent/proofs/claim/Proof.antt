@@ -1,7 +1,7 @@
 -- `lent::claim` meets its contract: each way out is a law that is cited below, at what the calls came to.
 use Rattle.lent.proofs.Laws.{words-of}
-use Rattle.watch.proofs.Entries.{claim-room, claim-so}
-use Rattle.watch.proofs.Looked.{fit-site}
+use Rattle.moves.proofs.Entries.{claim-room, claim-so}
+use Rattle.moves.proofs.Looked.{fit-site}
 use Rattle.flat.specs.Table.{rowsOf}
 use mathlib.Core.Path.{refl}
 use borrow.Author.Needs.{needs}

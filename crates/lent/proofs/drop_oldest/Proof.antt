@@ -1,6 +1,6 @@
 -- `lent::drop_oldest` meets its contract: each way out is a law that is cited below, at what the calls came to.
 use Rattle.lent.proofs.Laws.{words-of}
-use Rattle.watch.proofs.Entries.{drop-room, drop-so}
+use Rattle.moves.proofs.Entries.{drop-room, drop-so}
 use Rattle.flat.specs.Table.{rowsOf}
 use borrow.Author.Needs.{needs}
 use Rattle.lent.proofs.drop_oldest.Statement.{statement}

@@ -1,6 +1,6 @@
 -- `lent::hear_row` meets its contract: each way out is a law that is cited below, at what the calls came to.
 use Rattle.lent.proofs.Laws.{test-is, same-words, counted-words, site-fits}
-use Rattle.watch.proofs.Entries.{hear-none, hear-left, hear-kept}
+use Rattle.moves.proofs.Entries.{hear-none, hear-left, hear-kept}
 use Rattle.flat.specs.Table.{rowsOf}
 use borrow.Author.Needs.{needs}
 use Rattle.lent.proofs.hear_row.Statement.{statement}

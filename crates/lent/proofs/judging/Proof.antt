@@ -1,6 +1,6 @@
 -- `lent::judging` meets its contract: each way out is a law that is cited below, at what the calls came to.
-use Rattle.watch.proofs.Entries.{judging-so}
-use Rattle.watch.proofs.Looked.{look-room}
+use Rattle.moves.proofs.Entries.{judging-so}
+use Rattle.moves.proofs.Looked.{look-room}
 use Rattle.flat.specs.Table.{rowsOf}
 use borrow.Author.Needs.{needs}
 use Rattle.lent.proofs.judging.Statement.{statement}

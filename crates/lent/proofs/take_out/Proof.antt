@@ -1,6 +1,6 @@
 -- `lent::take_out` meets its contract: each way out is a law that is cited below, at what the calls came to.
 use Rattle.lent.proofs.Laws.{words-of}
-use Rattle.watch.proofs.Entries.{take-room, take-so}
+use Rattle.moves.proofs.Entries.{take-room, take-so}
 use Rattle.flat.specs.Table.{rowsOf}
 use borrow.Author.Needs.{needs}
 use Rattle.lent.proofs.take_out.Statement.{statement}

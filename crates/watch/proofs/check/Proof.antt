@@ -6,16 +6,16 @@ use Rattle.rows.specs.declared.Key.{Key}
 use Rattle.rows.specs.Read.{Looked, endsIs, endsOf}
 use Rattle.rows.specs.Links.{blank}
 use Rattle.rows.specs.Search.{atOf}
-use Rattle.rows.proofs.Types.{R, index, row, ends, key, part, looked}
+use Rattle.records.proofs.Types.{R, index, row, ends, key, part, looked}
 use Rattle.watch.proofs.Types.{answer-datum}
-use Rattle.watch.specs.Moves.{checkedAs}
-use Rattle.watch.proofs.Entries.{check-so}
-use Rattle.watch.proofs.ends_of as ends-of
-use Rattle.watch.proofs.ends_of.Symbol as ends-of-def
-use Rattle.watch.proofs.ends_of.Met as ends-of-thm
-use Rattle.rows.proofs.look_up as look-up
-use Rattle.rows.proofs.look_up.Symbol as look-up-def
-use Rattle.rows.proofs.look_up.Met as look-up-thm
+use Rattle.moves.specs.Moves.{checkedAs}
+use Rattle.moves.proofs.Entries.{check-so}
+use Rattle.moves.proofs.ends_of as ends-of
+use Rattle.moves.proofs.ends_of.Symbol as ends-of-def
+use Rattle.moves.proofs.ends_of.Met as ends-of-thm
+use Rattle.records.proofs.look_up as look-up
+use Rattle.records.proofs.look_up.Symbol as look-up-def
+use Rattle.records.proofs.look_up.Met as look-up-thm
 use Rattle.watch.proofs.check_row as check-row
 use Rattle.watch.proofs.check_row.Symbol as check-row-def
 use Rattle.watch.proofs.check_row.Met as check-row-thm
@@ -58,7 +58,7 @@ unfolding code.routine
 check-spec 𝓤 H 𝓜 𝓖 𝓡 =
     three-closed R u32 (Array u32 3) (key ∷ []) answer-datum 𝓤 H 𝓜 𝓖 𝓡 code.env name code.function (code.unfolded 𝓤 H 𝓜 𝓡) (check.clauses 𝓤 H (𝓖 .A) (𝓜 .mem) (𝓡 .run)) (λ κs qs x y z a g room₁ room₂ fit. via 𝓤 _ (snd∗ 𝓤 (emp 𝓤) _)
     (walk 𝓤 H (𝓖 .A) (the-given 𝓤 H 𝓜 𝓖 𝓡) (𝓜 .mem) (𝓡 .run) (the-tables 𝓤 H 𝓜 𝓖 𝓡 code.env .C) (the-tables 𝓤 H 𝓜 𝓖 𝓡 code.env .Λ) (framed 𝓤 H 𝓜 𝓖 𝓡 code.env) (entry written.table) (λ x is. ends .lawful 𝓤 H (𝓖 .A) (the-given 𝓤 H 𝓜 𝓖 𝓡) .typed x _ is .0) (λ x is. looked .lawful 𝓤 H (𝓖 .A) (the-given 𝓤 H 𝓜 𝓖 𝓡) .typed x _ is .0) (λ x is. answer-datum .lawful 𝓤 H (𝓖 .A) (the-given 𝓤 H 𝓜 𝓖 𝓡) .typed x _ is .0) (λ x is. key .lawful 𝓤 H (𝓖 .A) (the-given 𝓤 H 𝓜 𝓖 𝓡) .typed x _ is .0)
-    (known 𝓤 H 𝓜 𝓖 𝓡 ends-of.signature (ends-of.spec 𝓤 H (𝓖 .A) (𝓜 .mem) (𝓡 .run)) code.env ends-of-def.name ends-of-def.routine code.calls-watch·ends-of (ends-of-thm.met 𝓤 H 𝓜 𝓖 𝓡))
-    (known 𝓤 H 𝓜 𝓖 𝓡 look-up.signature (look-up.spec 𝓤 H (𝓖 .A) (𝓜 .mem) (𝓡 .run)) code.env look-up-def.name look-up-def.routine code.calls-rows·look-up (look-up-thm.met 𝓤 H 𝓜 𝓖 𝓡))
+    (known 𝓤 H 𝓜 𝓖 𝓡 ends-of.signature (ends-of.spec 𝓤 H (𝓖 .A) (𝓜 .mem) (𝓡 .run)) code.env ends-of-def.name ends-of-def.routine code.calls-moves·ends-of (ends-of-thm.met 𝓤 H 𝓜 𝓖 𝓡))
+    (known 𝓤 H 𝓜 𝓖 𝓡 look-up.signature (look-up.spec 𝓤 H (𝓖 .A) (𝓜 .mem) (𝓡 .run)) code.env look-up-def.name look-up-def.routine code.calls-records·look-up (look-up-thm.met 𝓤 H 𝓜 𝓖 𝓡))
     (known 𝓤 H 𝓜 𝓖 𝓡 check-row.signature (check-row.spec 𝓤 H (𝓖 .A) (𝓜 .mem) (𝓡 .run)) code.env check-row-def.name check-row-def.routine code.calls-watch·check-row (check-row-thm.met 𝓤 H 𝓜 𝓖 𝓡))
     (κs .0) (κs .1 .0) (κs .1 .1 .0) (qs .0) (qs .1 .0) (qs .1 .1 .0) (x .name) (y .name) (z .name) (x .ptr .0) (x .ptr .1) (y .ptr .0) (y .ptr .1) (z .ptr .0) (z .ptr .1) (x .now) (y .now) (z .now) (a .0) room₁ room₂ (fit .0)))

@@ -5,23 +5,23 @@ use Rattle.rows.specs.declared.Row.{Row}
 use Rattle.rows.specs.declared.Look.{Look}
 use Rattle.rows.specs.Links.{blank}
 use Rattle.rows.specs.Search.{isNo, atOf, numberOf}
-use Rattle.rows.proofs.Types.{R, row, part, looked}
+use Rattle.records.proofs.Types.{R, row, part, looked}
 use Rattle.watch.proofs.Types.{answer-datum}
-use Rattle.watch.specs.Answers.{saying, checkAnswer}
-use Rattle.watch.proofs.Entries.{check-none, check-kept}
-use Rattle.watch.specs.declared.Word.the-variants as Wd
+use Rattle.moves.specs.Answers.{saying, checkAnswer}
+use Rattle.moves.proofs.Entries.{check-none, check-kept}
+use Rattle.moves.specs.declared.Word.the-variants as Wd
 use Rattle.rows.proofs.is_no as is-no
 use Rattle.rows.proofs.is_no.Symbol as is-no-def
 use Rattle.rows.proofs.is_no.Met as is-no-thm
-use Rattle.watch.proofs.no_to as no-to
-use Rattle.watch.proofs.no_to.Symbol as no-to-def
-use Rattle.watch.proofs.no_to.Met as no-to-thm
-use Rattle.rows.proofs.found as found
-use Rattle.rows.proofs.found.Symbol as found-def
-use Rattle.rows.proofs.found.Met as found-thm
-use Rattle.watch.proofs.check_answer as check-answer
-use Rattle.watch.proofs.check_answer.Symbol as check-answer-def
-use Rattle.watch.proofs.check_answer.Met as check-answer-thm
+use Rattle.moves.proofs.no_to as no-to
+use Rattle.moves.proofs.no_to.Symbol as no-to-def
+use Rattle.moves.proofs.no_to.Met as no-to-thm
+use Rattle.records.proofs.found as found
+use Rattle.records.proofs.found.Symbol as found-def
+use Rattle.records.proofs.found.Met as found-thm
+use Rattle.moves.proofs.check_answer as check-answer
+use Rattle.moves.proofs.check_answer.Symbol as check-answer-def
+use Rattle.moves.proofs.check_answer.Met as check-answer-thm
 use Rattle.watch.proofs.check_row.Key.{name}
 use Rattle.watch.proofs.check_row as check-row
 use Rattle.watch.proofs.check_row.Statement as stated
@@ -62,7 +62,7 @@ check-row-spec 𝓤 H 𝓜 𝓖 𝓡 =
     shr-closed 𝓤 H 𝓜 𝓖 𝓡 R (looked ∷ []) answer-datum code.env name code.function (code.unfolded 𝓤 H 𝓜 𝓡) (check-row.clauses 𝓤 H (𝓖 .A) (𝓜 .mem) (𝓡 .run)) (λ κ q γ b o xs a g room fit. via 𝓤 _ (fst∗ 𝓤 _ (emp 𝓤))
     (walk 𝓤 H (𝓖 .A) (the-given 𝓤 H 𝓜 𝓖 𝓡) (𝓜 .mem) (𝓡 .run) (the-tables 𝓤 H 𝓜 𝓖 𝓡 code.env .C) (the-tables 𝓤 H 𝓜 𝓖 𝓡 code.env .Λ) (framed 𝓤 H 𝓜 𝓖 𝓡 code.env) (entry written.table) (λ x is. answer-datum .lawful 𝓤 H (𝓖 .A) (the-given 𝓤 H 𝓜 𝓖 𝓡) .typed x _ is .0) (λ x is. row .lawful 𝓤 H (𝓖 .A) (the-given 𝓤 H 𝓜 𝓖 𝓡) .typed x _ is .0) (λ x is. looked .lawful 𝓤 H (𝓖 .A) (the-given 𝓤 H 𝓜 𝓖 𝓡) .typed x _ is .0)
     (known 𝓤 H 𝓜 𝓖 𝓡 is-no.signature (is-no.spec 𝓤 H (𝓖 .A) (𝓜 .mem) (𝓡 .run)) code.env is-no-def.name is-no-def.routine code.calls-rows·is-no (is-no-thm.met 𝓤 H 𝓜 𝓖 𝓡))
-    (known 𝓤 H 𝓜 𝓖 𝓡 no-to.signature (no-to.spec 𝓤 H (𝓖 .A) (𝓜 .mem) (𝓡 .run)) code.env no-to-def.name no-to-def.routine code.calls-watch·no-to (no-to-thm.met 𝓤 H 𝓜 𝓖 𝓡))
-    (known 𝓤 H 𝓜 𝓖 𝓡 found.signature (found.spec 𝓤 H (𝓖 .A) (𝓜 .mem) (𝓡 .run)) code.env found-def.name found-def.routine code.calls-rows·found (found-thm.met 𝓤 H 𝓜 𝓖 𝓡))
-    (known 𝓤 H 𝓜 𝓖 𝓡 check-answer.signature (check-answer.spec 𝓤 H (𝓖 .A) (𝓜 .mem) (𝓡 .run)) code.env check-answer-def.name check-answer-def.routine code.calls-watch·check-answer (check-answer-thm.met 𝓤 H 𝓜 𝓖 𝓡))
+    (known 𝓤 H 𝓜 𝓖 𝓡 no-to.signature (no-to.spec 𝓤 H (𝓖 .A) (𝓜 .mem) (𝓡 .run)) code.env no-to-def.name no-to-def.routine code.calls-moves·no-to (no-to-thm.met 𝓤 H 𝓜 𝓖 𝓡))
+    (known 𝓤 H 𝓜 𝓖 𝓡 found.signature (found.spec 𝓤 H (𝓖 .A) (𝓜 .mem) (𝓡 .run)) code.env found-def.name found-def.routine code.calls-records·found (found-thm.met 𝓤 H 𝓜 𝓖 𝓡))
+    (known 𝓤 H 𝓜 𝓖 𝓡 check-answer.signature (check-answer.spec 𝓤 H (𝓖 .A) (𝓜 .mem) (𝓡 .run)) code.env check-answer-def.name check-answer-def.routine code.calls-moves·check-answer (check-answer-thm.met 𝓤 H 𝓜 𝓖 𝓡))
     κ q γ b o xs (a .0) room (fit .0)))

@@ -6,30 +6,30 @@ use Rattle.rows.specs.declared.Key.{Key}
 use Rattle.rows.specs.Read.{Looked, endsIs, endsOf}
 use Rattle.rows.specs.Links.{blank}
 use Rattle.rows.specs.Search.{atOf}
-use Rattle.rows.proofs.Types.{R, index, row, ends, key, looked}
+use Rattle.records.proofs.Types.{R, index, row, ends, key, looked}
 use Rattle.watch.proofs.Types.{answer-datum, move-datum, claimed-datum}
 use Rattle.sites.specs.declared.Claimed.{Claimed}
-use Rattle.watch.specs.Moves.{emptiedAt, ClaimedRow}
-use Rattle.watch.proofs.Looked.{fit-site}
-use Rattle.watch.proofs.Entries.{claim-room, claim-so}
-use Rattle.watch.proofs.ends_of as ends-of
-use Rattle.watch.proofs.ends_of.Symbol as ends-of-def
-use Rattle.watch.proofs.ends_of.Met as ends-of-thm
-use Rattle.rows.proofs.look_up as look-up
-use Rattle.rows.proofs.look_up.Symbol as look-up-def
-use Rattle.rows.proofs.look_up.Met as look-up-thm
+use Rattle.moves.specs.Moves.{emptiedAt, ClaimedRow}
+use Rattle.moves.proofs.Looked.{fit-site}
+use Rattle.moves.proofs.Entries.{claim-room, claim-so}
+use Rattle.moves.proofs.ends_of as ends-of
+use Rattle.moves.proofs.ends_of.Symbol as ends-of-def
+use Rattle.moves.proofs.ends_of.Met as ends-of-thm
+use Rattle.records.proofs.look_up as look-up
+use Rattle.records.proofs.look_up.Symbol as look-up-def
+use Rattle.records.proofs.look_up.Met as look-up-thm
 use Rattle.watch.proofs.claim_row as claim-row
 use Rattle.watch.proofs.claim_row.Symbol as claim-row-def
 use Rattle.watch.proofs.claim_row.Met as claim-row-thm
-use Rattle.watch.proofs.empty_move as empty-move
-use Rattle.watch.proofs.empty_move.Symbol as empty-move-def
-use Rattle.watch.proofs.empty_move.Met as empty-move-thm
-use Rattle.watch.proofs.keep_move as keep-move
-use Rattle.watch.proofs.keep_move.Symbol as keep-move-def
-use Rattle.watch.proofs.keep_move.Met as keep-move-thm
-use Rattle.watch.proofs.answer_of as answer-of
-use Rattle.watch.proofs.answer_of.Symbol as answer-of-def
-use Rattle.watch.proofs.answer_of.Met as answer-of-thm
+use Rattle.moves.proofs.empty_move as empty-move
+use Rattle.moves.proofs.empty_move.Symbol as empty-move-def
+use Rattle.moves.proofs.empty_move.Met as empty-move-thm
+use Rattle.moves.proofs.keep_move as keep-move
+use Rattle.moves.proofs.keep_move.Symbol as keep-move-def
+use Rattle.moves.proofs.keep_move.Met as keep-move-thm
+use Rattle.moves.proofs.answer_of as answer-of
+use Rattle.moves.proofs.answer_of.Symbol as answer-of-def
+use Rattle.moves.proofs.answer_of.Met as answer-of-thm
 use Rattle.watch.proofs.claim.Key.{name}
 use Rattle.watch.proofs.claim as claim
 use Rattle.watch.proofs.claim.Statement as stated
@@ -80,10 +80,10 @@ unfolding code.routine
 claim-spec 𝓤 H 𝓜 𝓖 𝓡 =
     three-closed R u32 (Array u32 3) (key ∷ claimed-datum ∷ []) answer-datum 𝓤 H 𝓜 𝓖 𝓡 code.env name code.function (code.unfolded 𝓤 H 𝓜 𝓡) (claim.clauses 𝓤 H (𝓖 .A) (𝓜 .mem) (𝓡 .run)) (λ κs qs x y z a g room₁ room₂ fit. via 𝓤 _ (snd∗ 𝓤 (emp 𝓤) _)
     (walk 𝓤 H (𝓖 .A) (the-given 𝓤 H 𝓜 𝓖 𝓡) (𝓜 .mem) (𝓡 .run) (the-tables 𝓤 H 𝓜 𝓖 𝓡 code.env .C) (the-tables 𝓤 H 𝓜 𝓖 𝓡 code.env .Λ) (framed 𝓤 H 𝓜 𝓖 𝓡 code.env) (entry written.table) (λ x is. ends .lawful 𝓤 H (𝓖 .A) (the-given 𝓤 H 𝓜 𝓖 𝓡) .typed x _ is .0) (λ x is. looked .lawful 𝓤 H (𝓖 .A) (the-given 𝓤 H 𝓜 𝓖 𝓡) .typed x _ is .0) (λ x is. move-datum .lawful 𝓤 H (𝓖 .A) (the-given 𝓤 H 𝓜 𝓖 𝓡) .typed x _ is .0) (λ x is. answer-datum .lawful 𝓤 H (𝓖 .A) (the-given 𝓤 H 𝓜 𝓖 𝓡) .typed x _ is .0) (λ x is. key .lawful 𝓤 H (𝓖 .A) (the-given 𝓤 H 𝓜 𝓖 𝓡) .typed x _ is .0) (λ x is. claimed-datum .lawful 𝓤 H (𝓖 .A) (the-given 𝓤 H 𝓜 𝓖 𝓡) .typed x _ is .0)
-    (known 𝓤 H 𝓜 𝓖 𝓡 ends-of.signature (ends-of.spec 𝓤 H (𝓖 .A) (𝓜 .mem) (𝓡 .run)) code.env ends-of-def.name ends-of-def.routine code.calls-watch·ends-of (ends-of-thm.met 𝓤 H 𝓜 𝓖 𝓡))
-    (known 𝓤 H 𝓜 𝓖 𝓡 look-up.signature (look-up.spec 𝓤 H (𝓖 .A) (𝓜 .mem) (𝓡 .run)) code.env look-up-def.name look-up-def.routine code.calls-rows·look-up (look-up-thm.met 𝓤 H 𝓜 𝓖 𝓡))
+    (known 𝓤 H 𝓜 𝓖 𝓡 ends-of.signature (ends-of.spec 𝓤 H (𝓖 .A) (𝓜 .mem) (𝓡 .run)) code.env ends-of-def.name ends-of-def.routine code.calls-moves·ends-of (ends-of-thm.met 𝓤 H 𝓜 𝓖 𝓡))
+    (known 𝓤 H 𝓜 𝓖 𝓡 look-up.signature (look-up.spec 𝓤 H (𝓖 .A) (𝓜 .mem) (𝓡 .run)) code.env look-up-def.name look-up-def.routine code.calls-records·look-up (look-up-thm.met 𝓤 H 𝓜 𝓖 𝓡))
     (known 𝓤 H 𝓜 𝓖 𝓡 claim-row.signature (claim-row.spec 𝓤 H (𝓖 .A) (𝓜 .mem) (𝓡 .run)) code.env claim-row-def.name claim-row-def.routine code.calls-watch·claim-row (claim-row-thm.met 𝓤 H 𝓜 𝓖 𝓡))
-    (known 𝓤 H 𝓜 𝓖 𝓡 empty-move.signature (empty-move.spec 𝓤 H (𝓖 .A) (𝓜 .mem) (𝓡 .run)) code.env empty-move-def.name empty-move-def.routine code.calls-watch·empty-move (empty-move-thm.met 𝓤 H 𝓜 𝓖 𝓡))
-    (known 𝓤 H 𝓜 𝓖 𝓡 keep-move.signature (keep-move.spec 𝓤 H (𝓖 .A) (𝓜 .mem) (𝓡 .run)) code.env keep-move-def.name keep-move-def.routine code.calls-watch·keep-move (keep-move-thm.met 𝓤 H 𝓜 𝓖 𝓡))
-    (known 𝓤 H 𝓜 𝓖 𝓡 answer-of.signature (answer-of.spec 𝓤 H (𝓖 .A) (𝓜 .mem) (𝓡 .run)) code.env answer-of-def.name answer-of-def.routine code.calls-watch·answer-of (answer-of-thm.met 𝓤 H 𝓜 𝓖 𝓡))
+    (known 𝓤 H 𝓜 𝓖 𝓡 empty-move.signature (empty-move.spec 𝓤 H (𝓖 .A) (𝓜 .mem) (𝓡 .run)) code.env empty-move-def.name empty-move-def.routine code.calls-moves·empty-move (empty-move-thm.met 𝓤 H 𝓜 𝓖 𝓡))
+    (known 𝓤 H 𝓜 𝓖 𝓡 keep-move.signature (keep-move.spec 𝓤 H (𝓖 .A) (𝓜 .mem) (𝓡 .run)) code.env keep-move-def.name keep-move-def.routine code.calls-moves·keep-move (keep-move-thm.met 𝓤 H 𝓜 𝓖 𝓡))
+    (known 𝓤 H 𝓜 𝓖 𝓡 answer-of.signature (answer-of.spec 𝓤 H (𝓖 .A) (𝓜 .mem) (𝓡 .run)) code.env answer-of-def.name answer-of-def.routine code.calls-moves·answer-of (answer-of-thm.met 𝓤 H 𝓜 𝓖 𝓡))
     (κs .0) (κs .1 .0) (κs .1 .1 .0) (qs .0) (qs .1 .0) (qs .1 .1 .0) (x .name) (y .name) (z .name) (x .ptr .0) (x .ptr .1) (y .ptr .0) (y .ptr .1) (z .ptr .0) (z .ptr .1) (x .now) (y .now) (z .now) (a .0) (a .1 .0) room₁ room₂ (fit .0) (fit .1 .0)))

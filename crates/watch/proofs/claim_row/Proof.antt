@@ -8,42 +8,42 @@ use Rattle.rows.specs.declared.Key.{Key}
 use Rattle.rows.specs.declared.Look.{Look}
 use Rattle.rows.specs.Links.{blank, seatOf, seatedRows}
 use Rattle.rows.specs.Search.{atOf, isUnfit, numberOf}
-use Rattle.rows.proofs.Types.{R, row, ends, key, part, seat, looked}
+use Rattle.records.proofs.Types.{R, row, ends, key, part, seat, looked}
 use Rattle.watch.proofs.Types.{move-datum, claimed-datum, claiming-datum}
 use Rattle.sites.specs.declared.Claimed.{Claimed}
 use Rattle.receiver.specs.Heard.{siteFits, claimed}
 use Rattle.receiver.specs.Answers.{claimingIs}
-use Rattle.watch.specs.Answers.{saying, isRefused, claimPart}
-use Rattle.watch.specs.Moves.{staying, seatMove, by-look}
-use Rattle.watch.proofs.Entries.{claim-left, claim-kept}
-use Rattle.watch.specs.declared.Word.the-variants as Wd
+use Rattle.moves.specs.Answers.{saying, isRefused, claimPart}
+use Rattle.moves.specs.Moves.{staying, seatMove, by-look}
+use Rattle.moves.proofs.Entries.{claim-left, claim-kept}
+use Rattle.moves.specs.declared.Word.the-variants as Wd
 use Rattle.rows.proofs.unfit as unfit
 use Rattle.rows.proofs.unfit.Symbol as unfit-def
 use Rattle.rows.proofs.unfit.Met as unfit-thm
-use Rattle.watch.proofs.unfit_move as unfit-move
-use Rattle.watch.proofs.unfit_move.Symbol as unfit-move-def
-use Rattle.watch.proofs.unfit_move.Met as unfit-move-thm
-use Rattle.rows.proofs.found as found
-use Rattle.rows.proofs.found.Symbol as found-def
-use Rattle.rows.proofs.found.Met as found-thm
-use Rattle.watch.proofs.claiming as claiming
-use Rattle.watch.proofs.claiming.Symbol as claiming-def
-use Rattle.watch.proofs.claiming.Met as claiming-thm
-use Rattle.watch.proofs.is_refused as is-refused
-use Rattle.watch.proofs.is_refused.Symbol as is-refused-def
-use Rattle.watch.proofs.is_refused.Met as is-refused-thm
-use Rattle.watch.proofs.outside_move as outside-move
-use Rattle.watch.proofs.outside_move.Symbol as outside-move-def
-use Rattle.watch.proofs.outside_move.Met as outside-move-thm
-use Rattle.watch.proofs.claim_part as claim-part
-use Rattle.watch.proofs.claim_part.Symbol as claim-part-def
-use Rattle.watch.proofs.claim_part.Met as claim-part-thm
-use Rattle.rows.proofs.insert_active as insert-active
-use Rattle.rows.proofs.insert_active.Symbol as insert-active-def
-use Rattle.rows.proofs.insert_active.Met as insert-active-thm
-use Rattle.watch.proofs.seat_move as seat-move
-use Rattle.watch.proofs.seat_move.Symbol as seat-move-def
-use Rattle.watch.proofs.seat_move.Met as seat-move-thm
+use Rattle.moves.proofs.unfit_move as unfit-move
+use Rattle.moves.proofs.unfit_move.Symbol as unfit-move-def
+use Rattle.moves.proofs.unfit_move.Met as unfit-move-thm
+use Rattle.records.proofs.found as found
+use Rattle.records.proofs.found.Symbol as found-def
+use Rattle.records.proofs.found.Met as found-thm
+use Rattle.moves.proofs.claiming as claiming
+use Rattle.moves.proofs.claiming.Symbol as claiming-def
+use Rattle.moves.proofs.claiming.Met as claiming-thm
+use Rattle.moves.proofs.is_refused as is-refused
+use Rattle.moves.proofs.is_refused.Symbol as is-refused-def
+use Rattle.moves.proofs.is_refused.Met as is-refused-thm
+use Rattle.moves.proofs.outside_move as outside-move
+use Rattle.moves.proofs.outside_move.Symbol as outside-move-def
+use Rattle.moves.proofs.outside_move.Met as outside-move-thm
+use Rattle.moves.proofs.claim_part as claim-part
+use Rattle.moves.proofs.claim_part.Symbol as claim-part-def
+use Rattle.moves.proofs.claim_part.Met as claim-part-thm
+use Rattle.records.proofs.insert_active as insert-active
+use Rattle.records.proofs.insert_active.Symbol as insert-active-def
+use Rattle.records.proofs.insert_active.Met as insert-active-thm
+use Rattle.moves.proofs.seat_move as seat-move
+use Rattle.moves.proofs.seat_move.Symbol as seat-move-def
+use Rattle.moves.proofs.seat_move.Met as seat-move-thm
 use Rattle.watch.proofs.claim_row.Key.{name}
 use Rattle.watch.proofs.claim_row as claim-row
 use Rattle.watch.proofs.claim_row.Statement as stated
@@ -104,12 +104,12 @@ claim-row-spec 𝓤 H 𝓜 𝓖 𝓡 =
     mut-closed 𝓤 H 𝓜 𝓖 𝓡 R (ends ∷ looked ∷ key ∷ claimed-datum ∷ []) move-datum code.env name code.function (code.unfolded 𝓤 H 𝓜 𝓡) (claim-row.clauses 𝓤 H (𝓖 .A) (𝓜 .mem) (𝓡 .run)) (λ κ q γ b o xs a g room fit. needs 𝓤 ((isUnfit (a .1 .0) ≡ false → siteFits (getD xs (atOf (a .1 .0)) blank .part .heard .site) ≡ true)) _
     (walk 𝓤 H (𝓖 .A) (the-given 𝓤 H 𝓜 𝓖 𝓡) (𝓜 .mem) (𝓡 .run) (the-tables 𝓤 H 𝓜 𝓖 𝓡 code.env .C) (the-tables 𝓤 H 𝓜 𝓖 𝓡 code.env .Λ) (framed 𝓤 H 𝓜 𝓖 𝓡 code.env) (entry written.table) (λ x is. move-datum .lawful 𝓤 H (𝓖 .A) (the-given 𝓤 H 𝓜 𝓖 𝓡) .typed x _ is .0) (λ x is. row .lawful 𝓤 H (𝓖 .A) (the-given 𝓤 H 𝓜 𝓖 𝓡) .typed x _ is .0) (λ x is. claiming-datum .lawful 𝓤 H (𝓖 .A) (the-given 𝓤 H 𝓜 𝓖 𝓡) .typed x _ is .0) (λ x is. part .lawful 𝓤 H (𝓖 .A) (the-given 𝓤 H 𝓜 𝓖 𝓡) .typed x _ is .0) (λ x is. seat .lawful 𝓤 H (𝓖 .A) (the-given 𝓤 H 𝓜 𝓖 𝓡) .typed x _ is .0) (λ x is. ends .lawful 𝓤 H (𝓖 .A) (the-given 𝓤 H 𝓜 𝓖 𝓡) .typed x _ is .0) (λ x is. looked .lawful 𝓤 H (𝓖 .A) (the-given 𝓤 H 𝓜 𝓖 𝓡) .typed x _ is .0) (λ x is. key .lawful 𝓤 H (𝓖 .A) (the-given 𝓤 H 𝓜 𝓖 𝓡) .typed x _ is .0) (λ x is. claimed-datum .lawful 𝓤 H (𝓖 .A) (the-given 𝓤 H 𝓜 𝓖 𝓡) .typed x _ is .0)
     (known 𝓤 H 𝓜 𝓖 𝓡 unfit.signature (unfit.spec 𝓤 H (𝓖 .A) (𝓜 .mem) (𝓡 .run)) code.env unfit-def.name unfit-def.routine code.calls-rows·unfit (unfit-thm.met 𝓤 H 𝓜 𝓖 𝓡))
-    (known 𝓤 H 𝓜 𝓖 𝓡 unfit-move.signature (unfit-move.spec 𝓤 H (𝓖 .A) (𝓜 .mem) (𝓡 .run)) code.env unfit-move-def.name unfit-move-def.routine code.calls-watch·unfit-move (unfit-move-thm.met 𝓤 H 𝓜 𝓖 𝓡))
-    (known 𝓤 H 𝓜 𝓖 𝓡 found.signature (found.spec 𝓤 H (𝓖 .A) (𝓜 .mem) (𝓡 .run)) code.env found-def.name found-def.routine code.calls-rows·found (found-thm.met 𝓤 H 𝓜 𝓖 𝓡))
-    (known 𝓤 H 𝓜 𝓖 𝓡 claiming.signature (claiming.spec 𝓤 H (𝓖 .A) (𝓜 .mem) (𝓡 .run)) code.env claiming-def.name claiming-def.routine code.calls-watch·claiming (claiming-thm.met 𝓤 H 𝓜 𝓖 𝓡))
-    (known 𝓤 H 𝓜 𝓖 𝓡 is-refused.signature (is-refused.spec 𝓤 H (𝓖 .A) (𝓜 .mem) (𝓡 .run)) code.env is-refused-def.name is-refused-def.routine code.calls-watch·is-refused (is-refused-thm.met 𝓤 H 𝓜 𝓖 𝓡))
-    (known 𝓤 H 𝓜 𝓖 𝓡 outside-move.signature (outside-move.spec 𝓤 H (𝓖 .A) (𝓜 .mem) (𝓡 .run)) code.env outside-move-def.name outside-move-def.routine code.calls-watch·outside-move (outside-move-thm.met 𝓤 H 𝓜 𝓖 𝓡))
-    (known 𝓤 H 𝓜 𝓖 𝓡 claim-part.signature (claim-part.spec 𝓤 H (𝓖 .A) (𝓜 .mem) (𝓡 .run)) code.env claim-part-def.name claim-part-def.routine code.calls-watch·claim-part (claim-part-thm.met 𝓤 H 𝓜 𝓖 𝓡))
-    (known 𝓤 H 𝓜 𝓖 𝓡 insert-active.signature (insert-active.spec 𝓤 H (𝓖 .A) (𝓜 .mem) (𝓡 .run)) code.env insert-active-def.name insert-active-def.routine code.calls-rows·insert-active (insert-active-thm.met 𝓤 H 𝓜 𝓖 𝓡))
-    (known 𝓤 H 𝓜 𝓖 𝓡 seat-move.signature (seat-move.spec 𝓤 H (𝓖 .A) (𝓜 .mem) (𝓡 .run)) code.env seat-move-def.name seat-move-def.routine code.calls-watch·seat-move (seat-move-thm.met 𝓤 H 𝓜 𝓖 𝓡))
+    (known 𝓤 H 𝓜 𝓖 𝓡 unfit-move.signature (unfit-move.spec 𝓤 H (𝓖 .A) (𝓜 .mem) (𝓡 .run)) code.env unfit-move-def.name unfit-move-def.routine code.calls-moves·unfit-move (unfit-move-thm.met 𝓤 H 𝓜 𝓖 𝓡))
+    (known 𝓤 H 𝓜 𝓖 𝓡 found.signature (found.spec 𝓤 H (𝓖 .A) (𝓜 .mem) (𝓡 .run)) code.env found-def.name found-def.routine code.calls-records·found (found-thm.met 𝓤 H 𝓜 𝓖 𝓡))
+    (known 𝓤 H 𝓜 𝓖 𝓡 claiming.signature (claiming.spec 𝓤 H (𝓖 .A) (𝓜 .mem) (𝓡 .run)) code.env claiming-def.name claiming-def.routine code.calls-moves·claiming (claiming-thm.met 𝓤 H 𝓜 𝓖 𝓡))
+    (known 𝓤 H 𝓜 𝓖 𝓡 is-refused.signature (is-refused.spec 𝓤 H (𝓖 .A) (𝓜 .mem) (𝓡 .run)) code.env is-refused-def.name is-refused-def.routine code.calls-moves·is-refused (is-refused-thm.met 𝓤 H 𝓜 𝓖 𝓡))
+    (known 𝓤 H 𝓜 𝓖 𝓡 outside-move.signature (outside-move.spec 𝓤 H (𝓖 .A) (𝓜 .mem) (𝓡 .run)) code.env outside-move-def.name outside-move-def.routine code.calls-moves·outside-move (outside-move-thm.met 𝓤 H 𝓜 𝓖 𝓡))
+    (known 𝓤 H 𝓜 𝓖 𝓡 claim-part.signature (claim-part.spec 𝓤 H (𝓖 .A) (𝓜 .mem) (𝓡 .run)) code.env claim-part-def.name claim-part-def.routine code.calls-moves·claim-part (claim-part-thm.met 𝓤 H 𝓜 𝓖 𝓡))
+    (known 𝓤 H 𝓜 𝓖 𝓡 insert-active.signature (insert-active.spec 𝓤 H (𝓖 .A) (𝓜 .mem) (𝓡 .run)) code.env insert-active-def.name insert-active-def.routine code.calls-records·insert-active (insert-active-thm.met 𝓤 H 𝓜 𝓖 𝓡))
+    (known 𝓤 H 𝓜 𝓖 𝓡 seat-move.signature (seat-move.spec 𝓤 H (𝓖 .A) (𝓜 .mem) (𝓡 .run)) code.env seat-move-def.name seat-move-def.routine code.calls-moves·seat-move (seat-move-thm.met 𝓤 H 𝓜 𝓖 𝓡))
     κ q γ b o xs (a .0) (a .1 .0) (a .1 .1 .0) (a .1 .1 .1 .0) room (fit .0) (fit .1 .0) (fit .1 .1 .0) (fit .1 .1 .1 .0)))

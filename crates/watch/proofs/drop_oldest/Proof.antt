@@ -3,35 +3,35 @@
 use Rattle.walks.proofs.Kit.{Head, Ty, entry, spelled, Fits, _≡_, refl, ℕ, List, [], _∷_, length, URA, vptr, SProp, ent, emp, id⊢, via, snd∗, Lft, Share, GName, Memory, Routine, Heap, Calls, Loops, WpFn, Atoms, Fun, factI, Given, ⋆, _$_, _∵_, !, qed, by, move, look, init, store, stop, hop, fld, from, load, addr, of-opd, and-then, no-more, assigns, land, returns, enter, alloc1, alloc0, params1, pass1, pass0, free0, whole, sub, agg, look-in, FmC, u32, Array, sliceVal, Room, Meets, ref-at, thin-at, call-plain, call-view, call-mut, call-ref, the-given, the-tables, known, framed, none, out, Held, three-exits, ThreePost, three-closed}
 use Rattle.rows.specs.declared.Row.{Row}
 use Rattle.rows.specs.Read.{Looked, endsIs, endsOf}
-use Rattle.rows.proofs.Types.{R, index, ends, key, looked}
+use Rattle.records.proofs.Types.{R, index, ends, key, looked}
 use Rattle.watch.proofs.Types.{answer-datum, move-datum}
-use Rattle.watch.specs.Answers.{noKey}
-use Rattle.watch.specs.Moves.{emptiedAt, removeMove, removedRows, oldestLook}
-use Rattle.watch.proofs.Entries.{drop-room, drop-so}
-use Rattle.watch.proofs.ends_of as ends-of
-use Rattle.watch.proofs.ends_of.Symbol as ends-of-def
-use Rattle.watch.proofs.ends_of.Met as ends-of-thm
-use Rattle.watch.proofs.zero_key as zero-key
-use Rattle.watch.proofs.zero_key.Symbol as zero-key-def
-use Rattle.watch.proofs.zero_key.Met as zero-key-thm
-use Rattle.rows.proofs.look_up as look-up
-use Rattle.rows.proofs.look_up.Symbol as look-up-def
-use Rattle.rows.proofs.look_up.Met as look-up-thm
-use Rattle.watch.proofs.oldest_of as oldest-of
-use Rattle.watch.proofs.oldest_of.Symbol as oldest-of-def
-use Rattle.watch.proofs.oldest_of.Met as oldest-of-thm
+use Rattle.moves.specs.Answers.{noKey}
+use Rattle.moves.specs.Moves.{emptiedAt, removeMove, removedRows, oldestLook}
+use Rattle.moves.proofs.Entries.{drop-room, drop-so}
+use Rattle.moves.proofs.ends_of as ends-of
+use Rattle.moves.proofs.ends_of.Symbol as ends-of-def
+use Rattle.moves.proofs.ends_of.Met as ends-of-thm
+use Rattle.moves.proofs.zero_key as zero-key
+use Rattle.moves.proofs.zero_key.Symbol as zero-key-def
+use Rattle.moves.proofs.zero_key.Met as zero-key-thm
+use Rattle.records.proofs.look_up as look-up
+use Rattle.records.proofs.look_up.Symbol as look-up-def
+use Rattle.records.proofs.look_up.Met as look-up-thm
+use Rattle.moves.proofs.oldest_of as oldest-of
+use Rattle.moves.proofs.oldest_of.Symbol as oldest-of-def
+use Rattle.moves.proofs.oldest_of.Met as oldest-of-thm
 use Rattle.watch.proofs.remove as remove
 use Rattle.watch.proofs.remove.Symbol as remove-def
 use Rattle.watch.proofs.remove.Met as remove-thm
-use Rattle.watch.proofs.empty_move as empty-move
-use Rattle.watch.proofs.empty_move.Symbol as empty-move-def
-use Rattle.watch.proofs.empty_move.Met as empty-move-thm
-use Rattle.watch.proofs.keep_move as keep-move
-use Rattle.watch.proofs.keep_move.Symbol as keep-move-def
-use Rattle.watch.proofs.keep_move.Met as keep-move-thm
-use Rattle.watch.proofs.answer_of as answer-of
-use Rattle.watch.proofs.answer_of.Symbol as answer-of-def
-use Rattle.watch.proofs.answer_of.Met as answer-of-thm
+use Rattle.moves.proofs.empty_move as empty-move
+use Rattle.moves.proofs.empty_move.Symbol as empty-move-def
+use Rattle.moves.proofs.empty_move.Met as empty-move-thm
+use Rattle.moves.proofs.keep_move as keep-move
+use Rattle.moves.proofs.keep_move.Symbol as keep-move-def
+use Rattle.moves.proofs.keep_move.Met as keep-move-thm
+use Rattle.moves.proofs.answer_of as answer-of
+use Rattle.moves.proofs.answer_of.Symbol as answer-of-def
+use Rattle.moves.proofs.answer_of.Met as answer-of-thm
 use Rattle.watch.proofs.drop_oldest.Key.{name}
 use Rattle.watch.proofs.drop_oldest as drop-oldest
 use Rattle.watch.proofs.drop_oldest.Statement as stated
@@ -86,12 +86,12 @@ unfolding code.routine
 drop-oldest-spec 𝓤 H 𝓜 𝓖 𝓡 =
     three-closed R u32 (Array u32 3) ([]) answer-datum 𝓤 H 𝓜 𝓖 𝓡 code.env name code.function (code.unfolded 𝓤 H 𝓜 𝓡) (drop-oldest.clauses 𝓤 H (𝓖 .A) (𝓜 .mem) (𝓡 .run)) (λ κs qs x y z a g room₁ room₂ fit. via 𝓤 _ (snd∗ 𝓤 (emp 𝓤) _)
     (walk 𝓤 H (𝓖 .A) (the-given 𝓤 H 𝓜 𝓖 𝓡) (𝓜 .mem) (𝓡 .run) (the-tables 𝓤 H 𝓜 𝓖 𝓡 code.env .C) (the-tables 𝓤 H 𝓜 𝓖 𝓡 code.env .Λ) (framed 𝓤 H 𝓜 𝓖 𝓡 code.env) (entry written.table) (λ x is. ends .lawful 𝓤 H (𝓖 .A) (the-given 𝓤 H 𝓜 𝓖 𝓡) .typed x _ is .0) (λ x is. key .lawful 𝓤 H (𝓖 .A) (the-given 𝓤 H 𝓜 𝓖 𝓡) .typed x _ is .0) (λ x is. looked .lawful 𝓤 H (𝓖 .A) (the-given 𝓤 H 𝓜 𝓖 𝓡) .typed x _ is .0) (λ x is. move-datum .lawful 𝓤 H (𝓖 .A) (the-given 𝓤 H 𝓜 𝓖 𝓡) .typed x _ is .0) (λ x is. answer-datum .lawful 𝓤 H (𝓖 .A) (the-given 𝓤 H 𝓜 𝓖 𝓡) .typed x _ is .0)
-    (known 𝓤 H 𝓜 𝓖 𝓡 ends-of.signature (ends-of.spec 𝓤 H (𝓖 .A) (𝓜 .mem) (𝓡 .run)) code.env ends-of-def.name ends-of-def.routine code.calls-watch·ends-of (ends-of-thm.met 𝓤 H 𝓜 𝓖 𝓡))
-    (known 𝓤 H 𝓜 𝓖 𝓡 zero-key.signature (zero-key.spec 𝓤 H (𝓖 .A) (𝓜 .mem) (𝓡 .run)) code.env zero-key-def.name zero-key-def.routine code.calls-watch·zero-key (zero-key-thm.met 𝓤 H 𝓜 𝓖 𝓡))
-    (known 𝓤 H 𝓜 𝓖 𝓡 look-up.signature (look-up.spec 𝓤 H (𝓖 .A) (𝓜 .mem) (𝓡 .run)) code.env look-up-def.name look-up-def.routine code.calls-rows·look-up (look-up-thm.met 𝓤 H 𝓜 𝓖 𝓡))
-    (known 𝓤 H 𝓜 𝓖 𝓡 oldest-of.signature (oldest-of.spec 𝓤 H (𝓖 .A) (𝓜 .mem) (𝓡 .run)) code.env oldest-of-def.name oldest-of-def.routine code.calls-watch·oldest-of (oldest-of-thm.met 𝓤 H 𝓜 𝓖 𝓡))
+    (known 𝓤 H 𝓜 𝓖 𝓡 ends-of.signature (ends-of.spec 𝓤 H (𝓖 .A) (𝓜 .mem) (𝓡 .run)) code.env ends-of-def.name ends-of-def.routine code.calls-moves·ends-of (ends-of-thm.met 𝓤 H 𝓜 𝓖 𝓡))
+    (known 𝓤 H 𝓜 𝓖 𝓡 zero-key.signature (zero-key.spec 𝓤 H (𝓖 .A) (𝓜 .mem) (𝓡 .run)) code.env zero-key-def.name zero-key-def.routine code.calls-moves·zero-key (zero-key-thm.met 𝓤 H 𝓜 𝓖 𝓡))
+    (known 𝓤 H 𝓜 𝓖 𝓡 look-up.signature (look-up.spec 𝓤 H (𝓖 .A) (𝓜 .mem) (𝓡 .run)) code.env look-up-def.name look-up-def.routine code.calls-records·look-up (look-up-thm.met 𝓤 H 𝓜 𝓖 𝓡))
+    (known 𝓤 H 𝓜 𝓖 𝓡 oldest-of.signature (oldest-of.spec 𝓤 H (𝓖 .A) (𝓜 .mem) (𝓡 .run)) code.env oldest-of-def.name oldest-of-def.routine code.calls-moves·oldest-of (oldest-of-thm.met 𝓤 H 𝓜 𝓖 𝓡))
     (known 𝓤 H 𝓜 𝓖 𝓡 remove.signature (remove.spec 𝓤 H (𝓖 .A) (𝓜 .mem) (𝓡 .run)) code.env remove-def.name remove-def.routine code.calls-watch·remove (remove-thm.met 𝓤 H 𝓜 𝓖 𝓡))
-    (known 𝓤 H 𝓜 𝓖 𝓡 empty-move.signature (empty-move.spec 𝓤 H (𝓖 .A) (𝓜 .mem) (𝓡 .run)) code.env empty-move-def.name empty-move-def.routine code.calls-watch·empty-move (empty-move-thm.met 𝓤 H 𝓜 𝓖 𝓡))
-    (known 𝓤 H 𝓜 𝓖 𝓡 keep-move.signature (keep-move.spec 𝓤 H (𝓖 .A) (𝓜 .mem) (𝓡 .run)) code.env keep-move-def.name keep-move-def.routine code.calls-watch·keep-move (keep-move-thm.met 𝓤 H 𝓜 𝓖 𝓡))
-    (known 𝓤 H 𝓜 𝓖 𝓡 answer-of.signature (answer-of.spec 𝓤 H (𝓖 .A) (𝓜 .mem) (𝓡 .run)) code.env answer-of-def.name answer-of-def.routine code.calls-watch·answer-of (answer-of-thm.met 𝓤 H 𝓜 𝓖 𝓡))
+    (known 𝓤 H 𝓜 𝓖 𝓡 empty-move.signature (empty-move.spec 𝓤 H (𝓖 .A) (𝓜 .mem) (𝓡 .run)) code.env empty-move-def.name empty-move-def.routine code.calls-moves·empty-move (empty-move-thm.met 𝓤 H 𝓜 𝓖 𝓡))
+    (known 𝓤 H 𝓜 𝓖 𝓡 keep-move.signature (keep-move.spec 𝓤 H (𝓖 .A) (𝓜 .mem) (𝓡 .run)) code.env keep-move-def.name keep-move-def.routine code.calls-moves·keep-move (keep-move-thm.met 𝓤 H 𝓜 𝓖 𝓡))
+    (known 𝓤 H 𝓜 𝓖 𝓡 answer-of.signature (answer-of.spec 𝓤 H (𝓖 .A) (𝓜 .mem) (𝓡 .run)) code.env answer-of-def.name answer-of-def.routine code.calls-moves·answer-of (answer-of-thm.met 𝓤 H 𝓜 𝓖 𝓡))
     (κs .0) (κs .1 .0) (κs .1 .1 .0) (qs .0) (qs .1 .0) (qs .1 .1 .0) (x .name) (y .name) (z .name) (x .ptr .0) (x .ptr .1) (y .ptr .0) (y .ptr .1) (z .ptr .0) (z .ptr .1) (x .now) (y .now) (z .now) room₁ room₂))

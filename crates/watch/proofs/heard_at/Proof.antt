@@ -5,14 +5,14 @@ use Rattle.rows.specs.declared.Row.{Row}
 use Rattle.rows.specs.declared.Look.{Look}
 use Rattle.rows.specs.Links.{blank}
 use Rattle.rows.specs.Search.{atOf}
-use Rattle.rows.proofs.Types.{R, row, part, looked}
+use Rattle.records.proofs.Types.{R, row, part, looked}
 use Rattle.watch.proofs.Types.{heard-datum}
-use Rattle.rows.proofs.found as found
-use Rattle.rows.proofs.found.Symbol as found-def
-use Rattle.rows.proofs.found.Met as found-thm
-use Rattle.watch.proofs.heard_in as heard-in
-use Rattle.watch.proofs.heard_in.Symbol as heard-in-def
-use Rattle.watch.proofs.heard_in.Met as heard-in-thm
+use Rattle.records.proofs.found as found
+use Rattle.records.proofs.found.Symbol as found-def
+use Rattle.records.proofs.found.Met as found-thm
+use Rattle.moves.proofs.heard_in as heard-in
+use Rattle.moves.proofs.heard_in.Symbol as heard-in-def
+use Rattle.moves.proofs.heard_in.Met as heard-in-thm
 use Rattle.watch.proofs.heard_at.Key.{name}
 use Rattle.watch.proofs.heard_at as heard-at
 use Rattle.watch.proofs.heard_at.Statement as stated
@@ -42,6 +42,6 @@ unfolding code.routine
 heard-at-spec 𝓤 H 𝓜 𝓖 𝓡 =
     shr-closed 𝓤 H 𝓜 𝓖 𝓡 R (looked ∷ []) heard-datum code.env name code.function (code.unfolded 𝓤 H 𝓜 𝓡) (heard-at.clauses 𝓤 H (𝓖 .A) (𝓜 .mem) (𝓡 .run)) (λ κ q γ b o xs a g room fit. via 𝓤 _ (fst∗ 𝓤 _ (emp 𝓤))
     (walk 𝓤 H (𝓖 .A) (the-given 𝓤 H 𝓜 𝓖 𝓡) (𝓜 .mem) (𝓡 .run) (the-tables 𝓤 H 𝓜 𝓖 𝓡 code.env .C) (the-tables 𝓤 H 𝓜 𝓖 𝓡 code.env .Λ) (framed 𝓤 H 𝓜 𝓖 𝓡 code.env) (entry written.table) (λ x is. row .lawful 𝓤 H (𝓖 .A) (the-given 𝓤 H 𝓜 𝓖 𝓡) .typed x _ is .0) (λ x is. heard-datum .lawful 𝓤 H (𝓖 .A) (the-given 𝓤 H 𝓜 𝓖 𝓡) .typed x _ is .0) (λ x is. looked .lawful 𝓤 H (𝓖 .A) (the-given 𝓤 H 𝓜 𝓖 𝓡) .typed x _ is .0)
-    (known 𝓤 H 𝓜 𝓖 𝓡 found.signature (found.spec 𝓤 H (𝓖 .A) (𝓜 .mem) (𝓡 .run)) code.env found-def.name found-def.routine code.calls-rows·found (found-thm.met 𝓤 H 𝓜 𝓖 𝓡))
-    (known 𝓤 H 𝓜 𝓖 𝓡 heard-in.signature (heard-in.spec 𝓤 H (𝓖 .A) (𝓜 .mem) (𝓡 .run)) code.env heard-in-def.name heard-in-def.routine code.calls-watch·heard-in (heard-in-thm.met 𝓤 H 𝓜 𝓖 𝓡))
+    (known 𝓤 H 𝓜 𝓖 𝓡 found.signature (found.spec 𝓤 H (𝓖 .A) (𝓜 .mem) (𝓡 .run)) code.env found-def.name found-def.routine code.calls-records·found (found-thm.met 𝓤 H 𝓜 𝓖 𝓡))
+    (known 𝓤 H 𝓜 𝓖 𝓡 heard-in.signature (heard-in.spec 𝓤 H (𝓖 .A) (𝓜 .mem) (𝓡 .run)) code.env heard-in-def.name heard-in-def.routine code.calls-moves·heard-in (heard-in-thm.met 𝓤 H 𝓜 𝓖 𝓡))
     κ q γ b o xs (a .0) room (fit .0)))

@@ -5,34 +5,34 @@ use Rattle.rows.specs.declared.Row.{Row}
 use Rattle.rows.specs.declared.Look.{Look}
 use Rattle.rows.specs.Links.{blank}
 use Rattle.rows.specs.Search.{isNo, atOf, numberOf}
-use Rattle.rows.proofs.Types.{R, link, row, looked}
+use Rattle.records.proofs.Types.{R, link, row, looked}
 use Rattle.watch.proofs.Types.{answer-datum, judgment-datum}
 use Rattle.near_field.specs.declared.Judgment.{Judgment}
-use Rattle.watch.specs.Answers.{saying}
-use Rattle.watch.specs.Moves.{judgedRow}
-use Rattle.watch.proofs.Entries.{judge-none, judge-kept}
-use Rattle.watch.specs.declared.Word.the-variants as Wd
+use Rattle.moves.specs.Answers.{saying}
+use Rattle.moves.specs.Moves.{judgedRow}
+use Rattle.moves.proofs.Entries.{judge-none, judge-kept}
+use Rattle.moves.specs.declared.Word.the-variants as Wd
 use Rattle.rows.proofs.is_no as is-no
 use Rattle.rows.proofs.is_no.Symbol as is-no-def
 use Rattle.rows.proofs.is_no.Met as is-no-thm
-use Rattle.watch.proofs.no_to as no-to
-use Rattle.watch.proofs.no_to.Symbol as no-to-def
-use Rattle.watch.proofs.no_to.Met as no-to-thm
+use Rattle.moves.proofs.no_to as no-to
+use Rattle.moves.proofs.no_to.Symbol as no-to-def
+use Rattle.moves.proofs.no_to.Met as no-to-thm
 use Rattle.rows.proofs.at_of as at-of
 use Rattle.rows.proofs.at_of.Symbol as at-of-def
 use Rattle.rows.proofs.at_of.Met as at-of-thm
-use Rattle.rows.proofs.get as get
-use Rattle.rows.proofs.get.Symbol as get-def
-use Rattle.rows.proofs.get.Met as get-thm
-use Rattle.watch.proofs.judged_part as judged-part
-use Rattle.watch.proofs.judged_part.Symbol as judged-part-def
-use Rattle.watch.proofs.judged_part.Met as judged-part-thm
-use Rattle.rows.proofs.put as put
-use Rattle.rows.proofs.put.Symbol as put-def
-use Rattle.rows.proofs.put.Met as put-thm
-use Rattle.watch.proofs.judged as judged
-use Rattle.watch.proofs.judged.Symbol as judged-def
-use Rattle.watch.proofs.judged.Met as judged-thm
+use Rattle.records.proofs.get as get
+use Rattle.records.proofs.get.Symbol as get-def
+use Rattle.records.proofs.get.Met as get-thm
+use Rattle.moves.proofs.judged_part as judged-part
+use Rattle.moves.proofs.judged_part.Symbol as judged-part-def
+use Rattle.moves.proofs.judged_part.Met as judged-part-thm
+use Rattle.records.proofs.put as put
+use Rattle.records.proofs.put.Symbol as put-def
+use Rattle.records.proofs.put.Met as put-thm
+use Rattle.moves.proofs.judged as judged
+use Rattle.moves.proofs.judged.Symbol as judged-def
+use Rattle.moves.proofs.judged.Met as judged-thm
 use Rattle.watch.proofs.judge_row.Key.{name}
 use Rattle.watch.proofs.judge_row as judge-row
 use Rattle.watch.proofs.judge_row.Statement as stated
@@ -83,10 +83,10 @@ judge-row-spec 𝓤 H 𝓜 𝓖 𝓡 =
     mut-closed 𝓤 H 𝓜 𝓖 𝓡 R (looked ∷ judgment-datum ∷ []) answer-datum code.env name code.function (code.unfolded 𝓤 H 𝓜 𝓡) (judge-row.clauses 𝓤 H (𝓖 .A) (𝓜 .mem) (𝓡 .run)) (λ κ q γ b o xs a g room fit. via 𝓤 _ (fst∗ 𝓤 _ (emp 𝓤))
     (walk 𝓤 H (𝓖 .A) (the-given 𝓤 H 𝓜 𝓖 𝓡) (𝓜 .mem) (𝓡 .run) (the-tables 𝓤 H 𝓜 𝓖 𝓡 code.env .C) (the-tables 𝓤 H 𝓜 𝓖 𝓡 code.env .Λ) (framed 𝓤 H 𝓜 𝓖 𝓡 code.env) (entry written.table) (λ x is. answer-datum .lawful 𝓤 H (𝓖 .A) (the-given 𝓤 H 𝓜 𝓖 𝓡) .typed x _ is .0) (λ x is. row .lawful 𝓤 H (𝓖 .A) (the-given 𝓤 H 𝓜 𝓖 𝓡) .typed x _ is .0) (λ x is. looked .lawful 𝓤 H (𝓖 .A) (the-given 𝓤 H 𝓜 𝓖 𝓡) .typed x _ is .0) (λ x is. judgment-datum .lawful 𝓤 H (𝓖 .A) (the-given 𝓤 H 𝓜 𝓖 𝓡) .typed x _ is .0)
     (known 𝓤 H 𝓜 𝓖 𝓡 is-no.signature (is-no.spec 𝓤 H (𝓖 .A) (𝓜 .mem) (𝓡 .run)) code.env is-no-def.name is-no-def.routine code.calls-rows·is-no (is-no-thm.met 𝓤 H 𝓜 𝓖 𝓡))
-    (known 𝓤 H 𝓜 𝓖 𝓡 no-to.signature (no-to.spec 𝓤 H (𝓖 .A) (𝓜 .mem) (𝓡 .run)) code.env no-to-def.name no-to-def.routine code.calls-watch·no-to (no-to-thm.met 𝓤 H 𝓜 𝓖 𝓡))
+    (known 𝓤 H 𝓜 𝓖 𝓡 no-to.signature (no-to.spec 𝓤 H (𝓖 .A) (𝓜 .mem) (𝓡 .run)) code.env no-to-def.name no-to-def.routine code.calls-moves·no-to (no-to-thm.met 𝓤 H 𝓜 𝓖 𝓡))
     (known 𝓤 H 𝓜 𝓖 𝓡 at-of.signature (at-of.spec 𝓤 H (𝓖 .A) (𝓜 .mem) (𝓡 .run)) code.env at-of-def.name at-of-def.routine code.calls-rows·at-of (at-of-thm.met 𝓤 H 𝓜 𝓖 𝓡))
-    (known 𝓤 H 𝓜 𝓖 𝓡 get.signature (get.spec 𝓤 H (𝓖 .A) (𝓜 .mem) (𝓡 .run)) code.env get-def.name get-def.routine code.calls-rows·get (get-thm.met 𝓤 H 𝓜 𝓖 𝓡))
-    (known 𝓤 H 𝓜 𝓖 𝓡 judged-part.signature (judged-part.spec 𝓤 H (𝓖 .A) (𝓜 .mem) (𝓡 .run)) code.env judged-part-def.name judged-part-def.routine code.calls-watch·judged-part (judged-part-thm.met 𝓤 H 𝓜 𝓖 𝓡))
-    (known 𝓤 H 𝓜 𝓖 𝓡 put.signature (put.spec 𝓤 H (𝓖 .A) (𝓜 .mem) (𝓡 .run)) code.env put-def.name put-def.routine code.calls-rows·put (put-thm.met 𝓤 H 𝓜 𝓖 𝓡))
-    (known 𝓤 H 𝓜 𝓖 𝓡 judged.signature (judged.spec 𝓤 H (𝓖 .A) (𝓜 .mem) (𝓡 .run)) code.env judged-def.name judged-def.routine code.calls-watch·judged (judged-thm.met 𝓤 H 𝓜 𝓖 𝓡))
+    (known 𝓤 H 𝓜 𝓖 𝓡 get.signature (get.spec 𝓤 H (𝓖 .A) (𝓜 .mem) (𝓡 .run)) code.env get-def.name get-def.routine code.calls-records·get (get-thm.met 𝓤 H 𝓜 𝓖 𝓡))
+    (known 𝓤 H 𝓜 𝓖 𝓡 judged-part.signature (judged-part.spec 𝓤 H (𝓖 .A) (𝓜 .mem) (𝓡 .run)) code.env judged-part-def.name judged-part-def.routine code.calls-moves·judged-part (judged-part-thm.met 𝓤 H 𝓜 𝓖 𝓡))
+    (known 𝓤 H 𝓜 𝓖 𝓡 put.signature (put.spec 𝓤 H (𝓖 .A) (𝓜 .mem) (𝓡 .run)) code.env put-def.name put-def.routine code.calls-records·put (put-thm.met 𝓤 H 𝓜 𝓖 𝓡))
+    (known 𝓤 H 𝓜 𝓖 𝓡 judged.signature (judged.spec 𝓤 H (𝓖 .A) (𝓜 .mem) (𝓡 .run)) code.env judged-def.name judged-def.routine code.calls-moves·judged (judged-thm.met 𝓤 H 𝓜 𝓖 𝓡))
     κ q γ b o xs (a .0) (a .1 .0) room (fit .0) (fit .1 .0)))

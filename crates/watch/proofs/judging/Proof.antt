@@ -6,23 +6,23 @@ use Rattle.rows.specs.declared.Key.{Key}
 use Rattle.rows.specs.Read.{Looked, endsIs, endsOf}
 use Rattle.rows.specs.Links.{blank}
 use Rattle.rows.specs.Search.{atOf}
-use Rattle.rows.proofs.Types.{R, index, row, ends, key, part, looked}
+use Rattle.records.proofs.Types.{R, index, row, ends, key, part, looked}
 use Rattle.watch.proofs.Types.{answer-datum, judgment-datum, heard-datum}
-use Rattle.watch.specs.Moves.{judgedAt, judgedAs, judgedRows}
-use Rattle.watch.proofs.Looked.{look-room}
-use Rattle.watch.proofs.Entries.{judging-so}
-use Rattle.watch.proofs.ends_of as ends-of
-use Rattle.watch.proofs.ends_of.Symbol as ends-of-def
-use Rattle.watch.proofs.ends_of.Met as ends-of-thm
-use Rattle.rows.proofs.look_up as look-up
-use Rattle.rows.proofs.look_up.Symbol as look-up-def
-use Rattle.rows.proofs.look_up.Met as look-up-thm
+use Rattle.moves.specs.Moves.{judgedAt, judgedAs, judgedRows}
+use Rattle.moves.proofs.Looked.{look-room}
+use Rattle.moves.proofs.Entries.{judging-so}
+use Rattle.moves.proofs.ends_of as ends-of
+use Rattle.moves.proofs.ends_of.Symbol as ends-of-def
+use Rattle.moves.proofs.ends_of.Met as ends-of-thm
+use Rattle.records.proofs.look_up as look-up
+use Rattle.records.proofs.look_up.Symbol as look-up-def
+use Rattle.records.proofs.look_up.Met as look-up-thm
 use Rattle.watch.proofs.heard_at as heard-at
 use Rattle.watch.proofs.heard_at.Symbol as heard-at-def
 use Rattle.watch.proofs.heard_at.Met as heard-at-thm
-use Rattle.watch.proofs.judge_at as judge-at
-use Rattle.watch.proofs.judge_at.Symbol as judge-at-def
-use Rattle.watch.proofs.judge_at.Met as judge-at-thm
+use Rattle.moves.proofs.judge_at as judge-at
+use Rattle.moves.proofs.judge_at.Symbol as judge-at-def
+use Rattle.moves.proofs.judge_at.Met as judge-at-thm
 use Rattle.watch.proofs.judge_row as judge-row
 use Rattle.watch.proofs.judge_row.Symbol as judge-row-def
 use Rattle.watch.proofs.judge_row.Met as judge-row-thm
@@ -75,9 +75,9 @@ unfolding code.routine
 judging-spec 𝓤 H 𝓜 𝓖 𝓡 =
     three-closed R u32 (Array u32 3) (key ∷ index ∷ index ∷ []) answer-datum 𝓤 H 𝓜 𝓖 𝓡 code.env name code.function (code.unfolded 𝓤 H 𝓜 𝓡) (judging.clauses 𝓤 H (𝓖 .A) (𝓜 .mem) (𝓡 .run)) (λ κs qs x y z a g room₁ room₂ fit. via 𝓤 _ (snd∗ 𝓤 (emp 𝓤) _)
     (walk 𝓤 H (𝓖 .A) (the-given 𝓤 H 𝓜 𝓖 𝓡) (𝓜 .mem) (𝓡 .run) (the-tables 𝓤 H 𝓜 𝓖 𝓡 code.env .C) (the-tables 𝓤 H 𝓜 𝓖 𝓡 code.env .Λ) (framed 𝓤 H 𝓜 𝓖 𝓡 code.env) (entry written.table) (λ x is. ends .lawful 𝓤 H (𝓖 .A) (the-given 𝓤 H 𝓜 𝓖 𝓡) .typed x _ is .0) (λ x is. looked .lawful 𝓤 H (𝓖 .A) (the-given 𝓤 H 𝓜 𝓖 𝓡) .typed x _ is .0) (λ x is. heard-datum .lawful 𝓤 H (𝓖 .A) (the-given 𝓤 H 𝓜 𝓖 𝓡) .typed x _ is .0) (λ x is. judgment-datum .lawful 𝓤 H (𝓖 .A) (the-given 𝓤 H 𝓜 𝓖 𝓡) .typed x _ is .0) (λ x is. answer-datum .lawful 𝓤 H (𝓖 .A) (the-given 𝓤 H 𝓜 𝓖 𝓡) .typed x _ is .0) (λ x is. key .lawful 𝓤 H (𝓖 .A) (the-given 𝓤 H 𝓜 𝓖 𝓡) .typed x _ is .0)
-    (known 𝓤 H 𝓜 𝓖 𝓡 ends-of.signature (ends-of.spec 𝓤 H (𝓖 .A) (𝓜 .mem) (𝓡 .run)) code.env ends-of-def.name ends-of-def.routine code.calls-watch·ends-of (ends-of-thm.met 𝓤 H 𝓜 𝓖 𝓡))
-    (known 𝓤 H 𝓜 𝓖 𝓡 look-up.signature (look-up.spec 𝓤 H (𝓖 .A) (𝓜 .mem) (𝓡 .run)) code.env look-up-def.name look-up-def.routine code.calls-rows·look-up (look-up-thm.met 𝓤 H 𝓜 𝓖 𝓡))
+    (known 𝓤 H 𝓜 𝓖 𝓡 ends-of.signature (ends-of.spec 𝓤 H (𝓖 .A) (𝓜 .mem) (𝓡 .run)) code.env ends-of-def.name ends-of-def.routine code.calls-moves·ends-of (ends-of-thm.met 𝓤 H 𝓜 𝓖 𝓡))
+    (known 𝓤 H 𝓜 𝓖 𝓡 look-up.signature (look-up.spec 𝓤 H (𝓖 .A) (𝓜 .mem) (𝓡 .run)) code.env look-up-def.name look-up-def.routine code.calls-records·look-up (look-up-thm.met 𝓤 H 𝓜 𝓖 𝓡))
     (known 𝓤 H 𝓜 𝓖 𝓡 heard-at.signature (heard-at.spec 𝓤 H (𝓖 .A) (𝓜 .mem) (𝓡 .run)) code.env heard-at-def.name heard-at-def.routine code.calls-watch·heard-at (heard-at-thm.met 𝓤 H 𝓜 𝓖 𝓡))
-    (known 𝓤 H 𝓜 𝓖 𝓡 judge-at.signature (judge-at.spec 𝓤 H (𝓖 .A) (𝓜 .mem) (𝓡 .run)) code.env judge-at-def.name judge-at-def.routine code.calls-watch·judge-at (judge-at-thm.met 𝓤 H 𝓜 𝓖 𝓡))
+    (known 𝓤 H 𝓜 𝓖 𝓡 judge-at.signature (judge-at.spec 𝓤 H (𝓖 .A) (𝓜 .mem) (𝓡 .run)) code.env judge-at-def.name judge-at-def.routine code.calls-moves·judge-at (judge-at-thm.met 𝓤 H 𝓜 𝓖 𝓡))
     (known 𝓤 H 𝓜 𝓖 𝓡 judge-row.signature (judge-row.spec 𝓤 H (𝓖 .A) (𝓜 .mem) (𝓡 .run)) code.env judge-row-def.name judge-row-def.routine code.calls-watch·judge-row (judge-row-thm.met 𝓤 H 𝓜 𝓖 𝓡))
     (κs .0) (κs .1 .0) (κs .1 .1 .0) (qs .0) (qs .1 .0) (qs .1 .1 .0) (x .name) (y .name) (z .name) (x .ptr .0) (x .ptr .1) (y .ptr .0) (y .ptr .1) (z .ptr .0) (z .ptr .1) (x .now) (y .now) (z .now) (a .0) (a .1 .0) (a .1 .1 .0) room₁ room₂ (fit .0) (fit .1 .0) (fit .1 .1 .0)))

@@ -6,30 +6,30 @@ use Rattle.rows.specs.declared.Key.{Key}
 use Rattle.rows.specs.Read.{Looked, endsIs, endsOf}
 use Rattle.rows.specs.Links.{blank}
 use Rattle.rows.specs.Search.{atOf}
-use Rattle.rows.proofs.Types.{R, index, row, ends, key, looked}
+use Rattle.records.proofs.Types.{R, index, row, ends, key, looked}
 use Rattle.watch.proofs.Types.{answer-datum, count-datum, position-datum}
 use Rattle.receiver.specs.declared.Position.{Position}
-use Rattle.watch.specs.Moves.{countedAt, HeardRow}
-use Rattle.watch.proofs.Looked.{held-site}
-use Rattle.watch.proofs.Entries.{position-room, position-so}
-use Rattle.watch.proofs.ends_of as ends-of
-use Rattle.watch.proofs.ends_of.Symbol as ends-of-def
-use Rattle.watch.proofs.ends_of.Met as ends-of-thm
-use Rattle.rows.proofs.look_up as look-up
-use Rattle.rows.proofs.look_up.Symbol as look-up-def
-use Rattle.rows.proofs.look_up.Met as look-up-thm
+use Rattle.moves.specs.Moves.{countedAt, HeardRow}
+use Rattle.moves.proofs.Looked.{held-site}
+use Rattle.moves.proofs.Entries.{position-room, position-so}
+use Rattle.moves.proofs.ends_of as ends-of
+use Rattle.moves.proofs.ends_of.Symbol as ends-of-def
+use Rattle.moves.proofs.ends_of.Met as ends-of-thm
+use Rattle.records.proofs.look_up as look-up
+use Rattle.records.proofs.look_up.Symbol as look-up-def
+use Rattle.records.proofs.look_up.Met as look-up-thm
 use Rattle.watch.proofs.hear_row as hear-row
 use Rattle.watch.proofs.hear_row.Symbol as hear-row-def
 use Rattle.watch.proofs.hear_row.Met as hear-row-thm
-use Rattle.watch.proofs.count_at as count-at
-use Rattle.watch.proofs.count_at.Symbol as count-at-def
-use Rattle.watch.proofs.count_at.Met as count-at-thm
-use Rattle.watch.proofs.keep_count as keep-count
-use Rattle.watch.proofs.keep_count.Symbol as keep-count-def
-use Rattle.watch.proofs.keep_count.Met as keep-count-thm
-use Rattle.watch.proofs.answered as answered
-use Rattle.watch.proofs.answered.Symbol as answered-def
-use Rattle.watch.proofs.answered.Met as answered-thm
+use Rattle.moves.proofs.count_at as count-at
+use Rattle.moves.proofs.count_at.Symbol as count-at-def
+use Rattle.moves.proofs.count_at.Met as count-at-thm
+use Rattle.moves.proofs.keep_count as keep-count
+use Rattle.moves.proofs.keep_count.Symbol as keep-count-def
+use Rattle.moves.proofs.keep_count.Met as keep-count-thm
+use Rattle.moves.proofs.answered as answered
+use Rattle.moves.proofs.answered.Symbol as answered-def
+use Rattle.moves.proofs.answered.Met as answered-thm
 use Rattle.watch.proofs.position.Key.{name}
 use Rattle.watch.proofs.position as position
 use Rattle.watch.proofs.position.Statement as stated
@@ -80,10 +80,10 @@ unfolding code.routine
 position-spec 𝓤 H 𝓜 𝓖 𝓡 =
     three-closed R u32 (Array u32 3) (key ∷ position-datum ∷ []) answer-datum 𝓤 H 𝓜 𝓖 𝓡 code.env name code.function (code.unfolded 𝓤 H 𝓜 𝓡) (position.clauses 𝓤 H (𝓖 .A) (𝓜 .mem) (𝓡 .run)) (λ κs qs x y z a g room₁ room₂ fit. via 𝓤 _ (snd∗ 𝓤 (emp 𝓤) _)
     (walk 𝓤 H (𝓖 .A) (the-given 𝓤 H 𝓜 𝓖 𝓡) (𝓜 .mem) (𝓡 .run) (the-tables 𝓤 H 𝓜 𝓖 𝓡 code.env .C) (the-tables 𝓤 H 𝓜 𝓖 𝓡 code.env .Λ) (framed 𝓤 H 𝓜 𝓖 𝓡 code.env) (entry written.table) (λ x is. ends .lawful 𝓤 H (𝓖 .A) (the-given 𝓤 H 𝓜 𝓖 𝓡) .typed x _ is .0) (λ x is. looked .lawful 𝓤 H (𝓖 .A) (the-given 𝓤 H 𝓜 𝓖 𝓡) .typed x _ is .0) (λ x is. count-datum .lawful 𝓤 H (𝓖 .A) (the-given 𝓤 H 𝓜 𝓖 𝓡) .typed x _ is .0) (λ x is. answer-datum .lawful 𝓤 H (𝓖 .A) (the-given 𝓤 H 𝓜 𝓖 𝓡) .typed x _ is .0) (λ x is. key .lawful 𝓤 H (𝓖 .A) (the-given 𝓤 H 𝓜 𝓖 𝓡) .typed x _ is .0) (λ x is. position-datum .lawful 𝓤 H (𝓖 .A) (the-given 𝓤 H 𝓜 𝓖 𝓡) .typed x _ is .0)
-    (known 𝓤 H 𝓜 𝓖 𝓡 ends-of.signature (ends-of.spec 𝓤 H (𝓖 .A) (𝓜 .mem) (𝓡 .run)) code.env ends-of-def.name ends-of-def.routine code.calls-watch·ends-of (ends-of-thm.met 𝓤 H 𝓜 𝓖 𝓡))
-    (known 𝓤 H 𝓜 𝓖 𝓡 look-up.signature (look-up.spec 𝓤 H (𝓖 .A) (𝓜 .mem) (𝓡 .run)) code.env look-up-def.name look-up-def.routine code.calls-rows·look-up (look-up-thm.met 𝓤 H 𝓜 𝓖 𝓡))
+    (known 𝓤 H 𝓜 𝓖 𝓡 ends-of.signature (ends-of.spec 𝓤 H (𝓖 .A) (𝓜 .mem) (𝓡 .run)) code.env ends-of-def.name ends-of-def.routine code.calls-moves·ends-of (ends-of-thm.met 𝓤 H 𝓜 𝓖 𝓡))
+    (known 𝓤 H 𝓜 𝓖 𝓡 look-up.signature (look-up.spec 𝓤 H (𝓖 .A) (𝓜 .mem) (𝓡 .run)) code.env look-up-def.name look-up-def.routine code.calls-records·look-up (look-up-thm.met 𝓤 H 𝓜 𝓖 𝓡))
     (known 𝓤 H 𝓜 𝓖 𝓡 hear-row.signature (hear-row.spec 𝓤 H (𝓖 .A) (𝓜 .mem) (𝓡 .run)) code.env hear-row-def.name hear-row-def.routine code.calls-watch·hear-row (hear-row-thm.met 𝓤 H 𝓜 𝓖 𝓡))
-    (known 𝓤 H 𝓜 𝓖 𝓡 count-at.signature (count-at.spec 𝓤 H (𝓖 .A) (𝓜 .mem) (𝓡 .run)) code.env count-at-def.name count-at-def.routine code.calls-watch·count-at (count-at-thm.met 𝓤 H 𝓜 𝓖 𝓡))
-    (known 𝓤 H 𝓜 𝓖 𝓡 keep-count.signature (keep-count.spec 𝓤 H (𝓖 .A) (𝓜 .mem) (𝓡 .run)) code.env keep-count-def.name keep-count-def.routine code.calls-watch·keep-count (keep-count-thm.met 𝓤 H 𝓜 𝓖 𝓡))
-    (known 𝓤 H 𝓜 𝓖 𝓡 answered.signature (answered.spec 𝓤 H (𝓖 .A) (𝓜 .mem) (𝓡 .run)) code.env answered-def.name answered-def.routine code.calls-watch·answered (answered-thm.met 𝓤 H 𝓜 𝓖 𝓡))
+    (known 𝓤 H 𝓜 𝓖 𝓡 count-at.signature (count-at.spec 𝓤 H (𝓖 .A) (𝓜 .mem) (𝓡 .run)) code.env count-at-def.name count-at-def.routine code.calls-moves·count-at (count-at-thm.met 𝓤 H 𝓜 𝓖 𝓡))
+    (known 𝓤 H 𝓜 𝓖 𝓡 keep-count.signature (keep-count.spec 𝓤 H (𝓖 .A) (𝓜 .mem) (𝓡 .run)) code.env keep-count-def.name keep-count-def.routine code.calls-moves·keep-count (keep-count-thm.met 𝓤 H 𝓜 𝓖 𝓡))
+    (known 𝓤 H 𝓜 𝓖 𝓡 answered.signature (answered.spec 𝓤 H (𝓖 .A) (𝓜 .mem) (𝓡 .run)) code.env answered-def.name answered-def.routine code.calls-moves·answered (answered-thm.met 𝓤 H 𝓜 𝓖 𝓡))
     (κs .0) (κs .1 .0) (κs .1 .1 .0) (qs .0) (qs .1 .0) (qs .1 .1 .0) (x .name) (y .name) (z .name) (x .ptr .0) (x .ptr .1) (y .ptr .0) (y .ptr .1) (z .ptr .0) (z .ptr .1) (x .now) (y .now) (z .now) (a .0) (a .1 .0) room₁ room₂ (fit .0) (fit .1 .0)))

@@ -6,33 +6,33 @@ use Rattle.rows.specs.declared.Ends.{Ends}
 use Rattle.rows.specs.declared.Look.{Look}
 use Rattle.rows.specs.Links.{blank, releasedRows, releasedEnds}
 use Rattle.rows.specs.Search.{isNo, atOf, numberOf}
-use Rattle.rows.proofs.Types.{R, link, row, ends, key, looked}
+use Rattle.records.proofs.Types.{R, link, row, ends, key, looked}
 use Rattle.watch.proofs.Types.{answer-datum, move-datum}
-use Rattle.watch.specs.Answers.{saying, freeing}
-use Rattle.watch.specs.Moves.{staying}
-use Rattle.watch.proofs.Entries.{remove-none, remove-kept}
-use Rattle.watch.specs.declared.Word.the-variants as Wd
+use Rattle.moves.specs.Answers.{saying, freeing}
+use Rattle.moves.specs.Moves.{staying}
+use Rattle.moves.proofs.Entries.{remove-none, remove-kept}
+use Rattle.moves.specs.declared.Word.the-variants as Wd
 use Rattle.rows.proofs.is_no as is-no
 use Rattle.rows.proofs.is_no.Symbol as is-no-def
 use Rattle.rows.proofs.is_no.Met as is-no-thm
-use Rattle.watch.proofs.unfit_move as unfit-move
-use Rattle.watch.proofs.unfit_move.Symbol as unfit-move-def
-use Rattle.watch.proofs.unfit_move.Met as unfit-move-thm
+use Rattle.moves.proofs.unfit_move as unfit-move
+use Rattle.moves.proofs.unfit_move.Symbol as unfit-move-def
+use Rattle.moves.proofs.unfit_move.Met as unfit-move-thm
 use Rattle.rows.proofs.at_of as at-of
 use Rattle.rows.proofs.at_of.Symbol as at-of-def
 use Rattle.rows.proofs.at_of.Met as at-of-thm
-use Rattle.rows.proofs.get as get
-use Rattle.rows.proofs.get.Symbol as get-def
-use Rattle.rows.proofs.get.Met as get-thm
-use Rattle.rows.proofs.release as release
-use Rattle.rows.proofs.release.Symbol as release-def
-use Rattle.rows.proofs.release.Met as release-thm
-use Rattle.watch.proofs.freed_row as freed-row
-use Rattle.watch.proofs.freed_row.Symbol as freed-row-def
-use Rattle.watch.proofs.freed_row.Met as freed-row-thm
-use Rattle.watch.proofs.moving as moving
-use Rattle.watch.proofs.moving.Symbol as moving-def
-use Rattle.watch.proofs.moving.Met as moving-thm
+use Rattle.records.proofs.get as get
+use Rattle.records.proofs.get.Symbol as get-def
+use Rattle.records.proofs.get.Met as get-thm
+use Rattle.records.proofs.release as release
+use Rattle.records.proofs.release.Symbol as release-def
+use Rattle.records.proofs.release.Met as release-thm
+use Rattle.moves.proofs.freed_row as freed-row
+use Rattle.moves.proofs.freed_row.Symbol as freed-row-def
+use Rattle.moves.proofs.freed_row.Met as freed-row-thm
+use Rattle.moves.proofs.moving as moving
+use Rattle.moves.proofs.moving.Symbol as moving-def
+use Rattle.moves.proofs.moving.Met as moving-thm
 use Rattle.watch.proofs.remove.Key.{name}
 use Rattle.watch.proofs.remove as remove
 use Rattle.watch.proofs.remove.Statement as stated
@@ -83,10 +83,10 @@ remove-spec 𝓤 H 𝓜 𝓖 𝓡 =
     mut-closed 𝓤 H 𝓜 𝓖 𝓡 R (ends ∷ looked ∷ []) move-datum code.env name code.function (code.unfolded 𝓤 H 𝓜 𝓡) (remove.clauses 𝓤 H (𝓖 .A) (𝓜 .mem) (𝓡 .run)) (λ κ q γ b o xs a g room fit. via 𝓤 _ (fst∗ 𝓤 _ (emp 𝓤))
     (walk 𝓤 H (𝓖 .A) (the-given 𝓤 H 𝓜 𝓖 𝓡) (𝓜 .mem) (𝓡 .run) (the-tables 𝓤 H 𝓜 𝓖 𝓡 code.env .C) (the-tables 𝓤 H 𝓜 𝓖 𝓡 code.env .Λ) (framed 𝓤 H 𝓜 𝓖 𝓡 code.env) (entry written.table) (λ x is. move-datum .lawful 𝓤 H (𝓖 .A) (the-given 𝓤 H 𝓜 𝓖 𝓡) .typed x _ is .0) (λ x is. row .lawful 𝓤 H (𝓖 .A) (the-given 𝓤 H 𝓜 𝓖 𝓡) .typed x _ is .0) (λ x is. ends .lawful 𝓤 H (𝓖 .A) (the-given 𝓤 H 𝓜 𝓖 𝓡) .typed x _ is .0) (λ x is. answer-datum .lawful 𝓤 H (𝓖 .A) (the-given 𝓤 H 𝓜 𝓖 𝓡) .typed x _ is .0) (λ x is. looked .lawful 𝓤 H (𝓖 .A) (the-given 𝓤 H 𝓜 𝓖 𝓡) .typed x _ is .0)
     (known 𝓤 H 𝓜 𝓖 𝓡 is-no.signature (is-no.spec 𝓤 H (𝓖 .A) (𝓜 .mem) (𝓡 .run)) code.env is-no-def.name is-no-def.routine code.calls-rows·is-no (is-no-thm.met 𝓤 H 𝓜 𝓖 𝓡))
-    (known 𝓤 H 𝓜 𝓖 𝓡 unfit-move.signature (unfit-move.spec 𝓤 H (𝓖 .A) (𝓜 .mem) (𝓡 .run)) code.env unfit-move-def.name unfit-move-def.routine code.calls-watch·unfit-move (unfit-move-thm.met 𝓤 H 𝓜 𝓖 𝓡))
+    (known 𝓤 H 𝓜 𝓖 𝓡 unfit-move.signature (unfit-move.spec 𝓤 H (𝓖 .A) (𝓜 .mem) (𝓡 .run)) code.env unfit-move-def.name unfit-move-def.routine code.calls-moves·unfit-move (unfit-move-thm.met 𝓤 H 𝓜 𝓖 𝓡))
     (known 𝓤 H 𝓜 𝓖 𝓡 at-of.signature (at-of.spec 𝓤 H (𝓖 .A) (𝓜 .mem) (𝓡 .run)) code.env at-of-def.name at-of-def.routine code.calls-rows·at-of (at-of-thm.met 𝓤 H 𝓜 𝓖 𝓡))
-    (known 𝓤 H 𝓜 𝓖 𝓡 get.signature (get.spec 𝓤 H (𝓖 .A) (𝓜 .mem) (𝓡 .run)) code.env get-def.name get-def.routine code.calls-rows·get (get-thm.met 𝓤 H 𝓜 𝓖 𝓡))
-    (known 𝓤 H 𝓜 𝓖 𝓡 release.signature (release.spec 𝓤 H (𝓖 .A) (𝓜 .mem) (𝓡 .run)) code.env release-def.name release-def.routine code.calls-rows·release (release-thm.met 𝓤 H 𝓜 𝓖 𝓡))
-    (known 𝓤 H 𝓜 𝓖 𝓡 freed-row.signature (freed-row.spec 𝓤 H (𝓖 .A) (𝓜 .mem) (𝓡 .run)) code.env freed-row-def.name freed-row-def.routine code.calls-watch·freed-row (freed-row-thm.met 𝓤 H 𝓜 𝓖 𝓡))
-    (known 𝓤 H 𝓜 𝓖 𝓡 moving.signature (moving.spec 𝓤 H (𝓖 .A) (𝓜 .mem) (𝓡 .run)) code.env moving-def.name moving-def.routine code.calls-watch·moving (moving-thm.met 𝓤 H 𝓜 𝓖 𝓡))
+    (known 𝓤 H 𝓜 𝓖 𝓡 get.signature (get.spec 𝓤 H (𝓖 .A) (𝓜 .mem) (𝓡 .run)) code.env get-def.name get-def.routine code.calls-records·get (get-thm.met 𝓤 H 𝓜 𝓖 𝓡))
+    (known 𝓤 H 𝓜 𝓖 𝓡 release.signature (release.spec 𝓤 H (𝓖 .A) (𝓜 .mem) (𝓡 .run)) code.env release-def.name release-def.routine code.calls-records·release (release-thm.met 𝓤 H 𝓜 𝓖 𝓡))
+    (known 𝓤 H 𝓜 𝓖 𝓡 freed-row.signature (freed-row.spec 𝓤 H (𝓖 .A) (𝓜 .mem) (𝓡 .run)) code.env freed-row-def.name freed-row-def.routine code.calls-moves·freed-row (freed-row-thm.met 𝓤 H 𝓜 𝓖 𝓡))
+    (known 𝓤 H 𝓜 𝓖 𝓡 moving.signature (moving.spec 𝓤 H (𝓖 .A) (𝓜 .mem) (𝓡 .run)) code.env moving-def.name moving-def.routine code.calls-moves·moving (moving-thm.met 𝓤 H 𝓜 𝓖 𝓡))
     κ q γ b o xs (a .0) (a .1 .0) room (fit .0) (fit .1 .0)))

@@ -1,0 +1,4 @@
+pub mod Laws
+pub mod Looked
+pub mod Entries
+pub mod Making
