@@ -1,4 +1,4 @@
--- What a line asks for (DESIGN section 6: 'A list of calls, as text'). Definitions only.
+-- What a line asks for (README, 'A list of calls'). Definitions only.
 use Prim.Native.Nat.{ℕ, _-_, _^_}
 use mathlib.Core.Bool.{Bool, _&&_, cond}
 use mathlib.Core.List.{List, [], _∷_}

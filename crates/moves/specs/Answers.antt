@@ -21,9 +21,7 @@ use Rattle.receiver.specs.Calls.{Out, generationIs, judgmentIs, says, freed, do
 use Rattle.rows.specs.declared.Key.{Key}
 use Rattle.rows.specs.declared.Row.{Row}
 use Rattle.rows.specs.declared.Seat.{Seat}
-use Rattle.rows.specs.declared.Look.{Look}
 use Rattle.rows.specs.Read.{watchIs}
-use Rattle.rows.specs.Search.{isUnfit, numberOf}
 use Rattle.moves.specs.declared.Word.{Word}
 use Rattle.moves.specs.declared.Word.the-variants as Wd
 use Rattle.moves.specs.declared.Answer.{Answer}
@@ -58,9 +56,6 @@ freeing k = record { word = Wd.Freed; pushed = false; key = k }
 abbrev pub checkAnswer : Judged → Answer
 checkAnswer (With v) = saying (Wd.Says (saysVerdict v))
 checkAnswer Never = saying (Wd.Refused 7)
-
-abbrev pub dropNo : Look → ℕ
-dropNo l = cond (isUnfit l) (numberOf l) 3
 
 -- A CLAIM, DECIDED
 abbrev pub isRefused : Claiming → Bool
