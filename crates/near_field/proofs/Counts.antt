@@ -22,6 +22,10 @@ few : (b : Bool) (n m : ℕ) → n ≤ m → cond b (n + 1) n ≤ suc m
 few true n m h = omega arith
 few false n m h = omega arith
 
+-- what `part` adds, by what is known of its arguments
+pub part-of : {r v v′ : ℕ} {b b′ : Bool} → r ≡ cond b v 0 → b ≡ b′ → v ≡ v′ → r ≡ cond b′ v′ 0
+part-of e p q = cc
+
 -- no more than have passed
 pub count-le : (p : ℕ → Bool) (n : ℕ) → howMany p n ≤ n
 unfolding pass

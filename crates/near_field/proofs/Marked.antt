@@ -9,9 +9,10 @@ use native.Mathlib.Omega.{arith}
 use borrow.Author.Tests.{lt-ltb, le-ltb, ltb-true, ltb-false, eq-eqb, ne-eqb, eqb-true, eqb-false}
 use lib.Bits.{bitOr}
 use lib.Dec.{ltb, eqb}
-use lib.IntN.{pos, _-ℤ_}
+use lib.IntN.{ℤ, pos, _-ℤ_}
 use lib.ListN.{length, getD, set, replicate, length-set}
 use lib.Seq.{ext-getD, getD-set-same, getD-set-other}
+use Rattle.angles.specs.Bearing.{sector}
 use Rattle.cells.specs.Cells.{occupiedWord}
 use Rattle.cells.proofs.Words.{zero-free, both-occupied}
 use Rattle.view.specs.View.{Unheard}
@@ -191,6 +192,10 @@ unheard-none g u =
     cells-none g
     ∙ table-same (λ (k : ℕ). some (cellIn g k) 0) (λ (k : ℕ). some (cellIn g k) 1600) 8
     (λ k l. some-none (cellIn g k) 0 (λ i l. absurd (omega arith)) ∙ sym (some-none (cellIn g k) 1600 (λ i l. ap (λ (b : Bool). b && inSector 40 40 k i) (u i l))))
+
+-- the same differences, the same sector
+pub same-sector : {e n : ℤ} {cx cx′ cy cy′ : ℕ} (x y : ℕ) → e ≡ pos cx -ℤ pos x → n ≡ pos cy -ℤ pos y → cx ≡ cx′ → cy ≡ cy′ → sector e n ≡ sectorFrom cx′ cy′ x y
+same-sector x y p q r s = cc
 
 -- what the code tests of a cell, and what is then marked
 module _ (ms : List Bool) (w i d : ℕ) (o : occupiedWord w ≡ true) (e : d ≡ fromSite i) where

@@ -60,6 +60,13 @@ pub four-spans :
     → d ≡ spanOf hs (spanOf hs (spanOf hs (spanOf hs ms q0 q1 s) q1 q2 t) q2 q3 u) q3 q4 v
 four-spans hs ms a b c d p0 p1 p2 p3 p4 q0 q1 q2 q3 q4 s t u v ea eb ec ed e0 e1 e2 e3 e4 = cc
 
+-- and two, with a gap between them
+pub two-spans :
+    (hs : List ℕ) (ms a b : List Bool) (p0 p1 p2 p3 q0 q1 q2 q3 s t : ℕ)
+    → a ≡ spanOf hs ms p0 p1 s → b ≡ spanOf hs a p2 p3 t → p0 ≡ q0 → p1 ≡ q1 → p2 ≡ q2 → p3 ≡ q3
+    → b ≡ spanOf hs (spanOf hs ms q0 q1 s) q2 q3 t
+two-spans hs ms a b p0 p1 p2 p3 q0 q1 q2 q3 s t ea eb e0 e1 e2 e3 = cc
+
 -- the cells of a part of a row, by their centres
 part : (row a b i : ℕ) → cutAt row a ≤ i → i < cutAt row b → (northOf i ≡ 2 * row + 1) × (a ≤ eastOf i) × (eastOf i < b)
 unfolding cutAt
@@ -215,3 +222,9 @@ module _ (g : List ℕ) (x y row m h : ℕ) (hx : x < 80) (hr : row < 40) (em : 
         (λ i n p q. level-6 x y (eastOf i) (northOf i) m h r (omega arith) (omega arith) even (omega arith) p q) (start ms e)
         ∙ marks-skip g x y (cutAt row x) (cutAt row (x + 1)) (cut-mono row x (x + 1) (omega arith))
         (λ i p q. let t = part row x (x + 1) i p q in low-none g x y i (own x y i (omega arith) (omega arith)))))
+
+-- the same of the row's own numbers
+pub own-row :
+    (g : List ℕ) (x row h : ℕ) → x < 80 → row < 40 → Reach 0 h → x % 2 ≡ 1 → (hs : List ℕ) → hs ≡ countsOf g
+    → (ms : List Bool) → ms ≡ marksOf g x (2 * row + 1) (40 * row) → levelSpans hs ms row x h ≡ marksOf g x (2 * row + 1) (40 * (row + 1))
+own-row g x row h hx hr r odd hs eh ms e = level-marks g x (2 * row + 1) row 0 h hx hr (omega arith) r hs eh (omega arith) ms refl e

@@ -5,7 +5,7 @@ use native.Mathlib.Nat.{mul-le-mul}
 use native.Mathlib.Omega.{arith}
 use lib.Dec.{ltb}
 use Rattle.cells.proofs.Passes.{first-le}
-use Rattle.near_field.specs.Plane.{apart, square, steps, said}
+use Rattle.near_field.specs.Plane.{apart, square, dist, steps, said}
 
 pub square-is : (n : ℕ) → square n ≡ n * n
 unfolding square
@@ -35,6 +35,10 @@ pub two-apart : (d m : ℕ) → 2 ≤ d + m → 144 < 100 * (square d + square m
 two-apart zero m h = omega (arith, square-le {m = 2} {n = m} (omega arith), square-two)
 two-apart (suc d) zero h = omega (arith, square-le {m = 2} {n = suc d} (omega arith), square-two)
 two-apart (suc d) (suc m) h = omega (arith, square-le {m = 1} {n = suc d} (omega arith), square-le {m = 1} {n = suc m} (omega arith), square-one)
+
+-- the same four numbers, the same distance
+pub same-dist : {cx cx′ cy cy′ x x′ y y′ : ℕ} → cx ≡ cx′ → cy ≡ cy′ → x ≡ x′ → y ≡ y′ → dist cx cy x y ≡ dist cx′ cy′ x′ y′
+same-dist p q r s = cc
 
 pub apart-below : (a b : ℕ) → a < b → (b - a) * (b - a) ≡ square (apart a b)
 unfolding square

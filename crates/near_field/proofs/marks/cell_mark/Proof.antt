@@ -1,7 +1,8 @@
 -- A cell that is empty, or not over 3 km away, marks nothing; any other marks the sector of the definition.
-use Rattle.near_field.proofs.Marked.{cell-far, cell-near}
+use Rattle.near_field.proofs.Marked.{cell-far, cell-near, same-sector}
+use Rattle.near_field.proofs.Squares.{same-dist}
 use borrow.Author.Tests.{not-true, not-false}
-use mathlib.Core.Path.{sym, _∙_}
+use mathlib.Core.Path.{refl, sym, _∙_}
 use Prim.Native.Nat.{_/_}
 use borrow.Author.Needs.{needs}
 use Rattle.near_field.proofs.marks.cell_mark.Statement.{statement}
@@ -67,8 +68,8 @@ returns-2 c =
     let c9 = c8 .before in
     let s = c9 .args in
     cell-far (s .marks) (s .w) (s .i) (c4 .distance .result) (sym (c8 .occupied .ensures) ∙ not-false _ (c7 .if1 .left))
-    (cc (c4 .distance .ensures .0, c5 .north-of .ensures, c6 .east-of .ensures)) _ (c3 .if2 .taken)
-    (cc (c .sector-of .ensures .0, c .before .sub2 .ensures .0, c .before .before .sub .ensures .0, c5 .north-of .ensures, c6 .east-of .ensures))
+    (c4 .distance .ensures .0 ∙ same-dist (c6 .east-of .ensures) (c5 .north-of .ensures) refl refl) _ (c3 .if2 .taken)
+    (c .sector-of .ensures .0 ∙ same-sector 40 40 (c .before .before .sub .ensures .0) (c .before .sub2 .ensures .0) (c6 .east-of .ensures) (c5 .north-of .ensures))
 
 -- src/marks.rt:48:1
 returns-3 : tie.Need-returns-3
@@ -79,7 +80,7 @@ returns-3 c =
     let c6 = c5 .before in
     let s = c6 .args in
     cell-near (s .marks) (s .w) (s .i) (c .before .distance .result) (sym (c5 .occupied .ensures) ∙ not-false _ (c4 .if1 .left))
-    (cc (c .before .distance .ensures .0, c .before .before .north-of .ensures, c3 .east-of .ensures)) (c .if2 .left)
+    (c .before .distance .ensures .0 ∙ same-dist (c3 .east-of .ensures) (c .before .before .north-of .ensures) refl refl) (c .if2 .left)
 
 pub cell-mark-spec : {M : Type 1} → statement M
 cell-mark-spec =

@@ -1,6 +1,6 @@
 -- The mean's squared distance is m / n² (`mean`): under 10 half cells, or said in steps.
 use native.Mathlib.Nat.{mul-le-mul}
-use Rattle.near_field.proofs.Judged.{mean-under, mean-over}
+use Rattle.near_field.proofs.Judged.{mean-of, mean-under, mean-over}
 use Rattle.near_field.proofs.Squares.{ten-square}
 use Rattle.near_field.specs.Near.{meanSquare}
 use native.Mathlib.Omega.{arith}
@@ -11,10 +11,10 @@ use Rattle.near_field.proofs.near.found_at.Statement.{statement}
 use Rattle.near_field.proofs.near.found_at.Tie as tie
 
 mean : (c : tie.After-gap2) → c .before .before .gap .result + c .gap2 .result ≡ meanSquare (c .before .before .before .before .before .before .args .grid .now) (c .before .before .before .before .before .before .args .best)
-unfolding meanSquare
 mean c =
     let g = c .before .before .before .before .before .group-of .ensures in
-    cc (c .before .before .gap .ensures .0, c .gap2 .ensures .0, g .0, g .1, g .2)
+    let s = c .before .before .before .before .before .before .args in
+    mean-of (s .grid .now) (s .best) _ _ _ _ _ (c .before .before .gap .ensures .0) (c .gap2 .ensures .0) (g .0) (g .1) (g .2)
 
 -- src/near.rt:161:9
 group-of-requires : tie.Need-group-of-requires

@@ -1,12 +1,12 @@
 -- After i cells the array is the table of the counts before each of the first i + 1 (`table-fill`), and n the last of them.
-use Rattle.near_field.proofs.Counts.{heard-none}
+use Rattle.near_field.proofs.Counts.{heard-none, part-of}
 use Rattle.near_field.specs.Counts.{countsOf}
 use Rattle.near_field.specs.Marks.{occ}
 use Rattle.cells.proofs.Passes.{pass-none, sum-step, table-fill, table-full}
 use Rattle.cells.specs.Passes.{howMany, table}
 use lib.ListN.{take, length}
 use native.Mathlib.Omega.{arith}
-use mathlib.Core.Path.{_≡_, sym}
+use mathlib.Core.Path.{_≡_, refl, sym}
 use Prim.Native.Nat.{ℕ, _+_, _-_, _/_, _≤_}
 use borrow.Author.Needs.{needs}
 use Rattle.near_field.proofs.spans.heard_before.Statement.{statement}
@@ -64,7 +64,7 @@ loop-again : tie.Need-loop-again Inv-loop μ-loop
 loop-again c =
     let l = c .before .before .before .before .loop in
     let g = c .before .before .before .before .before .args .grid .now in
-    let e = sum-step (occ g) (λ (j : ℕ). 1) (l .n) (c .part .result) (l .i) (l .inv .2) (cc) in (
+    let e = sum-step (occ g) (λ (j : ℕ). 1) (l .n) (c .part .result) (l .i) (l .inv .2) (part-of (c .part .ensures .0) (c .before .occupied .ensures) refl) in (
       search needs,
       search needs,
       e,

@@ -1,7 +1,7 @@
 -- The two spans are those of `levelSpans`, and a law of Rows says what they mark.
-use mathlib.Core.Path.{_≡_, refl, _∙_}
-use Rattle.near_field.proofs.Rows.{levelSpans, level-marks}
-use native.Mathlib.Omega.{arith}
+use mathlib.Core.Path.{ap, _∙_}
+use Rattle.near_field.specs.Counts.{cutAt}
+use Rattle.near_field.proofs.Rows.{two-spans, own-row}
 use Prim.Native.Nat.{_+_, _*_, _/_}
 use borrow.Author.Needs.{needs}
 use Rattle.near_field.proofs.spans.level_row.Statement.{statement}
@@ -55,10 +55,14 @@ span-requires-2 c κs = search needs
 returns : tie.Need-returns
 returns c =
     λ g eh em.
-    let s = c .before .before .before .before .before .before .before .before in
-    let h = c .before .before .before .before .before .before .before .reach in
-    let e : c .span2 .result ≡ levelSpans (s .args .heard .now) (s .args .marks) (s .args .row) (s .args .x) (h .result) = cc in
-    e ∙ level-marks g (s .args .x) (2 * s .args .row + 1) (s .args .row) 0 (h .result) (s .pre .0) (s .pre .1) (omega arith) (h .ensures) (s .args .heard .now) eh (omega arith) (s .args .marks) refl em
+    let c3 = c .before .before .before in
+    let c6 = c3 .before .before .before in
+    let h = c6 .before .reach in
+    let s = c6 .before .before in
+    two-spans _ _ _ _ _ _ _ _ _ _ _ _ _ _ (c3 .span .ensures) (c .span2 .ensures)
+    (c3 .before .before .cut .ensures .0 ∙ ap (cutAt (s .args .row)) (c6 .less .ensures .0)) (c3 .before .cut2 .ensures .0)
+    (c .before .before .cut3 .ensures .0) (c .before .cut4 .ensures .0)
+    ∙ own-row g (s .args .x) (s .args .row) (h .result) (s .pre .0) (s .pre .1) (h .ensures) (s .pre .2) (s .args .heard .now) eh (s .args .marks) em
 
 pub level-row-spec : {M : Type 1} → statement M
 level-row-spec =
