@@ -14,7 +14,7 @@ use Rattle.cells.proofs.Passes.{pass-next}
 use Rattle.cells.specs.Cells.{countOf}
 use Rattle.cells.specs.Passes.{pass, sumOf}
 use Rattle.cells.proofs.Words.{count-small}
-use Rattle.near_field.specs.Plane.{steps}
+use Rattle.plane.specs.Plane.{steps}
 use Rattle.nothing_near.specs.Counted.{noSteps, gather, below, cellStep, binStep, cellSteps}
 use Rattle.nothing_near.proofs.Sums.{sum-next, sum-le}
 use Rattle.nothing_near.proofs.Steps.{cell-below, bin-below}

@@ -3,7 +3,7 @@ use mathlib.Core.Path.{ap, _∙_}
 use Prim.Native.Nat.{ℕ}
 use native.Mathlib.Omega.{arith}
 use borrow.Author.Needs.{needs}
-use Rattle.near_field.specs.Plane.{steps}
+use Rattle.plane.specs.Plane.{steps}
 use Rattle.nothing_near.specs.Counted.{cellStep}
 use Rattle.nothing_near.proofs.cell_step.Statement.{statement}
 use Rattle.nothing_near.proofs.cell_step.Tie as tie

@@ -1,7 +1,7 @@
 -- After i cells n is how many of the first i lie within the bound (`sum-step`).
-use Rattle.near_field.specs.Marks.{occ}
-use Rattle.near_field.specs.Plane.{fromSite}
-use Rattle.near_field.proofs.Counts.{part-of}
+use Rattle.around.specs.Marks.{occ}
+use Rattle.plane.specs.Plane.{fromSite}
+use Rattle.plane.proofs.Same.{part-of}
 use Rattle.cells.proofs.Passes.{sum-step, pass-none}
 use Rattle.cells.specs.Passes.{howMany}
 use lib.Dec.{leb}

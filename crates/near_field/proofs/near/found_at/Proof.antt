@@ -1,7 +1,7 @@
 -- The mean's squared distance is m / n² (`mean`): under 10 half cells, or said in steps.
 use native.Mathlib.Nat.{mul-le-mul}
 use Rattle.near_field.proofs.Judged.{mean-of, mean-under, mean-over}
-use Rattle.near_field.proofs.Squares.{ten-square}
+use Rattle.plane.proofs.Squares.{ten-square}
 use Rattle.near_field.specs.Near.{meanSquare}
 use native.Mathlib.Omega.{arith}
 use Prim.Native.Nat.{_+_, _/_}

@@ -1,9 +1,9 @@
 -- After i cells the sums are those of the members among the first i (`sum-step`).
 use Rattle.cells.specs.Passes.{sumOf}
 use Rattle.near_field.specs.Near.{member}
-use Rattle.near_field.specs.Marks.{near}
-use Rattle.near_field.specs.Plane.{eastOf, northOf}
-use Rattle.near_field.proofs.Counts.{part-of}
+use Rattle.around.specs.Marks.{near}
+use Rattle.plane.specs.Plane.{eastOf, northOf}
+use Rattle.plane.proofs.Same.{part-of}
 use Rattle.cells.proofs.Passes.{pass-none, sum-step}
 use Rattle.cells.specs.Passes.{howMany}
 use native.Mathlib.Omega.{arith}

@@ -1,8 +1,8 @@
 -- A cell over 25 km away is no member; any other is one where it is found, and a found cell has a cell around it.
 use mathlib.Core.Path.{_∙_}
 use Rattle.near_field.proofs.Found.{member-far, member-near}
-use Rattle.near_field.proofs.Squares.{same-dist}
-use Rattle.near_field.specs.Marks.{near}
+use Rattle.plane.proofs.Same.{same-dist}
+use Rattle.around.specs.Marks.{near}
 use Prim.Native.Nat.{_/_}
 use borrow.Author.Needs.{needs}
 use Rattle.near_field.proofs.near.is_member.Statement.{statement}

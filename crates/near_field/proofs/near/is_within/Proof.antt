@@ -1,6 +1,6 @@
 -- An empty cell is not; any other is by its distance from the site.
-use Rattle.near_field.specs.Marks.{near}
-use Rattle.near_field.proofs.Squares.{same-dist}
+use Rattle.around.specs.Marks.{near}
+use Rattle.plane.proofs.Same.{same-dist}
 use lib.Dec.{leb}
 use borrow.Author.Tests.{not-true, not-false}
 use mathlib.Core.Path.{refl, sym, ap, _∙_}
