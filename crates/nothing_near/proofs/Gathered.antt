@@ -106,6 +106,10 @@ pub gather-next : (step : ℕ → ℕ) (words start at : List ℕ) (i : ℕ) →
 unfolding gather
 gather-next step words start at i e = ap (gather step words i) e ∙ sym (pass-next (gather step words) start i)
 
+-- the same place and positions, the same store
+pub gather-same : (at : List ℕ) {k k′ c c′ : ℕ} → k ≡ k′ → c ≡ c′ → set at k (getD at k 0 + c) ≡ set at k′ (getD at k′ 0 + c′)
+gather-same at p q = cc
+
 -- no positions change nothing
 pub gather-none : (at : List ℕ) (k c : ℕ) → c ≡ 0 → at ≡ set at k (getD at k 0 + c)
 gather-none at k c e = sym (ap (λ (n : ℕ). set at k (getD at k 0 + n)) e ∙ ap (set at k) (add-zero (getD at k 0)) ∙ set-getD at k 0)
