@@ -2,17 +2,17 @@
 use mathlib.Core.Path.{_≡_, refl, sym, ap}
 use mathlib.Core.Bool.{_&&_, _||_, Bool, true, false, cond}
 use mathlib.Core.List.{List, [], _∷_}
-use Prim.Native.Nat.{ℕ, zero, suc, _+_, _*_, _≤_, _<_}
+use Prim.Native.Nat.{ℕ, zero, suc, _*_, _≤_, _<_}
 use native.Mathlib.Omega.{arith}
 use borrow.Author.Tests.{lt-ltb, le-ltb, le-leb, lt-leb, eq-eqb, ne-eqb}
 use lib.Dec.{leb, ltb, eqb}
-use Rattle.cells.specs.Passes.{pass, sumOf, some, table}
+use Rattle.cells.specs.Passes.{pass, some, table}
 use Rattle.cells.proofs.Passes.{pass-all, some-none, table-same}
 use Rattle.view.specs.View.{Unheard}
 use Rattle.near_field.specs.Sorted.{those}
-use Rattle.plane.specs.Plane.{eastOf, northOf, apart, square, said, fromSite}
+use Rattle.plane.specs.Plane.{square, said, fromSite}
 use Rattle.around.specs.Marks.{occ, near, inSector, marksOf, aroundOf, sectorsIn}
-use Rattle.near_field.specs.Near.{cellDistances, noHole, better, bestOf, member, members, meanSquare, foundOf, bestOrNone, nearFieldBy, found, cellsAround}
+use Rattle.near_field.specs.Near.{cellDistances, noHole, better, bestOf, members, meanSquare, foundOf, bestOrNone, nearFieldBy, found, cellsAround}
 use Rattle.near_field.specs.declared.Judgment.the-variants.{Unjudged, Fits, Wrong}
 use Rattle.near_field.specs.declared.Evidence.the-variants.{NearField}
 
@@ -90,13 +90,6 @@ not-it b l d = omega arith
 
 pub best-below : (g : List ℕ) (b : ℕ) → b ≡ bestOf g 1600 → (b ≡ 1600 → ⊥) → b < 1600
 best-below g b e d = let l = best-le g 1600 (omega arith) in not-it b (omega arith) d
-
--- the mean's squared distance, from the sums and how many they are
-pub mean-of :
-    (g : List ℕ) (best a b e n k : ℕ) → a ≡ square (apart e (40 * k)) → b ≡ square (apart n (40 * k))
-    → k ≡ members g best → e ≡ sumOf (member g best) eastOf 1600 → n ≡ sumOf (member g best) northOf 1600 → a + b ≡ meanSquare g best
-unfolding meanSquare
-mean-of g best a b e n k p q r s t = cc
 
 pub mean-under : (scale : ℕ) (g : List ℕ) (best m n : ℕ) → m ≡ meanSquare g best → n ≡ members g best → m < 10 * n * (10 * n) → Unjudged ≡ foundOf scale g best
 unfolding foundOf square

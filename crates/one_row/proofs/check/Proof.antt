@@ -1,26 +1,26 @@
 -- `check` meets its contract: question 7, then what the verdict says.
-use Rattle.receiver.proofs.RowLaws.{check-says, check-never}
+use Rattle.one_row.proofs.RowLaws.{check-says, check-never}
 use borrow.Author.Needs.{needs}
-use Rattle.receiver.proofs.row.check.Statement.{statement}
-use Rattle.receiver.proofs.row.check.Tie as tie
+use Rattle.one_row.proofs.check.Statement.{statement}
+use Rattle.one_row.proofs.check.Tie as tie
 
--- src/row.rt:119:22
+-- src/lib.rt:119:22
 enum-known-v : tie.Need-enum-known-v
 enum-known-v c = search needs
 
--- src/row.rt:119:42
+-- src/lib.rt:119:42
 says-requires : tie.Need-says-requires
 says-requires c κs = search needs
 
--- src/row.rt:120:26
+-- src/lib.rt:120:26
 enum-told : tie.Need-enum-told
 enum-told c = search needs
 
--- src/row.rt:114:1
+-- src/lib.rt:114:1
 returns : tie.Need-returns
 returns c = search (check-says, needs)
 
--- src/row.rt:114:1
+-- src/lib.rt:114:1
 returns-2 : tie.Need-returns-2
 returns-2 c = search (check-never, needs)
 

@@ -1,18 +1,18 @@
 -- `clear` meets its contract: 3,344 cells written are all of the row's.
-use Rattle.receiver.proofs.RowLaws.{row-room, all-empty}
+use Rattle.one_row.proofs.RowLaws.{row-room, all-empty}
 use borrow.Author.Needs.{needs}
-use Rattle.receiver.proofs.row.clear.Statement.{statement}
-use Rattle.receiver.proofs.row.clear.Tie as tie
+use Rattle.one_row.proofs.clear.Statement.{statement}
+use Rattle.one_row.proofs.clear.Tie as tie
 
--- src/row.rt:49:5
+-- src/lib.rt:49:5
 empty-requires : tie.Need-empty-requires
 empty-requires c κs = search (row-room, needs)
 
--- src/row.rt:45:1
+-- src/lib.rt:45:1
 same-length : tie.Need-same-length
 same-length c = search needs
 
--- src/row.rt:45:1
+-- src/lib.rt:45:1
 returns : tie.Need-returns
 returns c = all-empty (c .before .before .before .before .before .args .cells .now) (c .before .before .empty .last .0) (c .before .before .before .before .before .pre) (c .before .before .empty .ensures)
 

@@ -1,18 +1,18 @@
 -- `judging` meets its contract: the judgment is the definition's, and the verdict goes on by it.
-use Rattle.receiver.proofs.RowLaws.{long-is, judging-is}
+use Rattle.one_row.proofs.RowLaws.{long-is, judging-is}
 use borrow.Author.Needs.{needs}
-use Rattle.receiver.proofs.row.judging.Statement.{statement}
-use Rattle.receiver.proofs.row.judging.Tie as tie
+use Rattle.one_row.proofs.judging.Statement.{statement}
+use Rattle.one_row.proofs.judging.Tie as tie
 
--- src/row.rt:104:9
+-- src/lib.rt:104:9
 judge-requires : tie.Need-judge-requires
 judge-requires c κs = search (long-is, needs)
 
--- src/row.rt:108:22
+-- src/lib.rt:108:22
 judged-requires : tie.Need-judged-requires
 judged-requires c κs = search needs
 
--- src/row.rt:95:1
+-- src/lib.rt:95:1
 returns : tie.Need-returns
 returns c = search (judging-is, needs)
 

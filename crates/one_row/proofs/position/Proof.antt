@@ -1,50 +1,50 @@
 -- `position` meets its contract: what `heard` says of any cells it says of these, and `count` writes them.
-use Rattle.receiver.proofs.RowLaws.{position-outside, position-siteless, position-late, position-fits, position-counted}
+use Rattle.one_row.proofs.RowLaws.{position-outside, position-siteless, position-late, position-fits, position-counted}
 use borrow.Author.Needs.{needs}
-use Rattle.receiver.proofs.row.position.Statement.{statement}
-use Rattle.receiver.proofs.row.position.Tie as tie
+use Rattle.one_row.proofs.position.Statement.{statement}
+use Rattle.one_row.proofs.position.Tie as tie
 
--- src/row.rt:80:11
+-- src/lib.rt:80:11
 heard-requires : tie.Need-heard-requires
 heard-requires c κs = search needs
 
--- src/row.rt:81:29
+-- src/lib.rt:81:29
 enum-told : tie.Need-enum-told
 enum-told c = search needs
 
--- src/row.rt:82:30
+-- src/lib.rt:82:30
 enum-told-2 : tie.Need-enum-told-2
 enum-told-2 c = search needs
 
--- src/row.rt:83:26
+-- src/lib.rt:83:26
 enum-told-3 : tie.Need-enum-told-3
 enum-told-3 c = search needs
 
--- src/row.rt:84:21
+-- src/lib.rt:84:21
 enum-known-c : tie.Need-enum-known-c
 enum-known-c c = search needs
 
--- src/row.rt:85:13
+-- src/lib.rt:85:13
 count-requires : tie.Need-count-requires
 count-requires c κs = position-fits (c .before .before .before .before .before .before .before .args .p) (c .before .before .before .before .before .before .before .args .cells .now) (c .before .before .before .before .before .before .before .args .q) (c .before .before .before .before .heard .result) (c .before .before .before .before .heard .ensures) (c .before .before .c .given .0 .0) (c .before .before .c .given .1) (c .before .before .before .before .before .before .before .pre .0)
 
--- src/row.rt:74:1
+-- src/lib.rt:74:1
 returns : tie.Need-returns
 returns c = search (position-outside, needs)
 
--- src/row.rt:74:1
+-- src/lib.rt:74:1
 returns-2 : tie.Need-returns-2
 returns-2 c = search (position-siteless, needs)
 
--- src/row.rt:74:1
+-- src/lib.rt:74:1
 returns-3 : tie.Need-returns-3
 returns-3 c = search (position-late, needs)
 
--- src/row.rt:74:1
+-- src/lib.rt:74:1
 same-length : tie.Need-same-length
 same-length c = search needs
 
--- src/row.rt:74:1
+-- src/lib.rt:74:1
 returns-4 : tie.Need-returns-4
 returns-4 c = search (position-counted, needs)
 

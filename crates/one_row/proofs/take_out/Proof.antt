@@ -1,22 +1,22 @@
 -- `take_out` meets its contract: both are as fresh.
-use Rattle.receiver.proofs.RowLaws.{taken-out}
+use Rattle.one_row.proofs.RowLaws.{taken-out}
 use borrow.Author.Needs.{needs}
-use Rattle.receiver.proofs.row.take_out.Statement.{statement}
-use Rattle.receiver.proofs.row.take_out.Tie as tie
+use Rattle.one_row.proofs.take_out.Statement.{statement}
+use Rattle.one_row.proofs.take_out.Tie as tie
 
--- src/row.rt:129:5
+-- src/lib.rt:129:5
 clear-requires : tie.Need-clear-requires
 clear-requires c κs = search needs
 
--- src/row.rt:130:5
+-- src/lib.rt:130:5
 unmade-requires : tie.Need-unmade-requires
 unmade-requires c κs = search needs
 
--- src/row.rt:125:1
+-- src/lib.rt:125:1
 same-length : tie.Need-same-length
 same-length c = search needs
 
--- src/row.rt:125:1
+-- src/lib.rt:125:1
 returns : tie.Need-returns
 returns c = search (taken-out, needs)
 
