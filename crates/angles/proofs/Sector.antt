@@ -1,6 +1,6 @@
 -- The sector of an east and a north that are held as sign and size: none, the four due directions, and what lies between two of them.
 -- Assumes nothing.
-use mathlib.Core.Path.{_≡_, refl}
+use mathlib.Core.Path.{_≡_, refl, sym}
 use mathlib.Core.Bool.{Bool, true, false, cond}
 use Prim.Native.Nat.{ℕ, zero, suc, _<_}
 use native.Mathlib.Omega.{arith}
@@ -47,3 +47,16 @@ in-quarter false false (suc m) (suc n) h k = refl
 in-quarter false true (suc m) (suc n) h k = refl
 in-quarter true false (suc m) (suc n) h k = refl
 in-quarter true true (suc m) (suc n) h k = refl
+
+-- ---- the same of a sign and a size as the code has tested them
+pub none-at : (a b : Bool) {m n : ℕ} → m ≡ 0 → n ≡ 0 → 0 ≡ sector (signed a m) (signed b n)
+none-at a b p q = rw (p, q) (sym (due-none a b))
+
+pub north-south-at : (a t : Bool) {b : Bool} {m : ℕ} (n : ℕ) → m ≡ 0 → b ≡ t → 0 < n → cond t 4 0 ≡ sector (signed a m) (signed b n)
+north-south-at a t n p q h = rw (p, q) (sym (due-north-south a t n h))
+
+pub east-west-at : (b t : Bool) {a : Bool} {n : ℕ} (m : ℕ) → n ≡ 0 → a ≡ t → 0 < m → cond t 6 2 ≡ sector (signed a m) (signed b n)
+east-west-at b t m p q h = rw (p, q) (sym (due-east-west t b m h))
+
+pub quarter-at : (t u : Bool) {a b : Bool} (m n : ℕ) → a ≡ t → b ≡ u → 0 < m → 0 < n → between t u m n ≡ sector (signed a m) (signed b n)
+quarter-at t u m n p q h k = rw (p, q) (sym (in-quarter t u m n h k))

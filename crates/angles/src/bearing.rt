@@ -4,7 +4,7 @@ ghost use Prim.Native.Nat.{_+_, _≤_, _<_, _^_};
 ghost use lib.IntN.{pos, _-ℤ_};
 ghost use Rattle.trig.specs.Ticks.{scaled};
 ghost use Rattle.angles.specs.Bearing.{quarter, sector};
-ghost use Rattle.trig.specs.Value.{value};
+ghost use Rattle.trig.specs.Value.{signed, value};
 use trig::num;
 use trig::num::Num;
 
@@ -25,6 +25,23 @@ fn quarter_of(k: u64, ahead: u64, side: u64) -> u64
     ensures { λ r. ⌜ (r ≡ quarter k ahead side) × (r ≤ k + 1) ⌝ }
 {
     if side < ahead { k } else { k + 1 }
+}
+
+// Of an east or west of size m and a north or south of size n, neither of them zero.
+fn between(west: bool, south: bool, m: u64, n: u64) -> u64
+    requires { ⌜ (0 < m) × (0 < n) ⌝ }
+    ensures { λ r. ⌜ (r ≡ sector (signed west m) (signed south n)) × (r < 8) ⌝ }
+{
+    if west {
+        if south {
+            return quarter_of(4, n, m);
+        }
+        return quarter_of(6, m, n);
+    }
+    if south {
+        return quarter_of(2, m, n);
+    }
+    quarter_of(0, n, m)
 }
 
 // Of an east y and a north x.
@@ -48,14 +65,5 @@ pub fn sector_of(y: Num, x: Num) -> u64
         }
         return 2;
     }
-    if y.minus {
-        if x.minus {
-            return quarter_of(4, n, m);
-        }
-        return quarter_of(6, m, n);
-    }
-    if x.minus {
-        return quarter_of(2, m, n);
-    }
-    quarter_of(0, n, m)
+    between(y.minus, x.minus, m, n)
 }

@@ -118,3 +118,20 @@ both-occupied a b =
     any (a % 256) (b % 256) (bitOr a b % 256)
     (λ h. (omega (arith, and-le-r (a % 256) (b % 256)), omega (arith, and-le-l (a % 256) (b % 256))))
     (λ h k. m ∙ ap (λ (n : ℕ). bitOr n (b % 256)) h ∙ ap (λ (n : ℕ). bitOr 0 n) k)
+
+-- ---- what the functions answer, by what their callees do
+pub cell-added : (k : Cell) (low bit n l : ℕ) → n ≡ min 255 (k .count + 1) → l ≡ min (k .low) low → _≡_ {A = Cell} (record { count = n; low = l; aircraft = bitOr (k .aircraft) bit }) (added k low bit)
+unfolding added
+cell-added k low bit n l p q = cc
+
+pub cell-merged : (a b : Cell) (n l : ℕ) → n ≡ min 255 (a .count + b .count) → l ≡ min (a .low) (b .low) → _≡_ {A = Cell} (record { count = n; low = l; aircraft = bitOr (a .aircraft) (b .aircraft) }) (merge a b)
+unfolding merge
+cell-merged a b n l p q = cc
+
+pub added-as : {k a : Cell} {r : ℕ} (w low bit : ℕ) → r ≡ packed a → a ≡ added k low bit → k ≡ unpacked w → r ≡ addedWord w low bit
+unfolding addedWord
+added-as w low bit p q s = cc
+
+pub merged-as : {k m c : Cell} {r : ℕ} (a b : ℕ) → r ≡ packed c → c ≡ merge k m → k ≡ unpacked a → m ≡ unpacked b → r ≡ mergedWord a b
+unfolding mergedWord
+merged-as a b p q s t = cc

@@ -22,8 +22,8 @@ use Rattle.view.proofs.Views.{grid-at, bins-at, even-alone}
 use Rattle.sites.specs.declared.Site.{Site}
 use Rattle.sites.specs.declared.Claimed.the-variants.{At}
 use Rattle.past_horizon.specs.Horizon.{pastHorizon}
-use Rattle.near_field.specs.Plane.{square}
-use Rattle.near_field.specs.Marks.{inSector, sectorsIn, cellIn, binIn, outsideOf}
+use Rattle.plane.specs.Plane.{square}
+use Rattle.around.specs.Marks.{inSector, sectorsIn, cellIn, binIn, outsideOf}
 use Rattle.near_field.specs.declared.Judgment.the-variants.{Unjudged, Wrong}
 use Rattle.near_field.specs.declared.Evidence.the-variants.{NothingNear}
 use Rattle.nothing_near.specs.Nothing.{cellPlace, binPlace, heard, placesHeard, places, nothingNear}

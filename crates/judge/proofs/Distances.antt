@@ -19,8 +19,8 @@ use Rattle.sites.specs.declared.Claimed.{Claimed}
 use Rattle.sites.specs.declared.Claimed.the-variants.{At, Nowhere}
 use Rattle.past_horizon.specs.Horizon.{pastHorizon}
 use Rattle.past_horizon.proofs.Range.{past-distance}
-use Rattle.near_field.specs.Plane.{square, said}
-use Rattle.near_field.specs.Marks.{aroundOf, sectorsIn, outsideOf}
+use Rattle.plane.specs.Plane.{square, said}
+use Rattle.around.specs.Marks.{aroundOf, sectorsIn, outsideOf}
 use Rattle.near_field.specs.Near.{noHole, members, meanSquare, bestOf, foundOf, bestOrNone, nearFieldBy, nearField}
 use Rattle.near_field.specs.declared.Judgment.{Judgment}
 use Rattle.near_field.specs.declared.Judgment.the-variants.{Unjudged, Fits, Wrong}
@@ -29,7 +29,7 @@ use Rattle.near_field.specs.declared.Evidence.the-variants.{NearField}
 use Rattle.nothing_near.specs.Nothing.{places, nothingNear}
 use Rattle.nothing_near.specs.declared.Empty.{Empty}
 use Rattle.nothing_near.specs.declared.Empty.the-variants.{Off, Heard}
-use Rattle.near_field.proofs.Squares.{said-step}
+use Rattle.plane.proofs.Squares.{said-step}
 use Rattle.nothing_near.proofs.Said.{off-step}
 use Rattle.judge.specs.Judging.{ifOutside, horizonOff, afterHorizon, byHorizon, judgeCells, judgeRow, judgeOf, Step}
 

@@ -13,7 +13,7 @@ use Rattle.view.specs.View.{mergedAt, gridOf, farOf}
 use Rattle.view.specs.declared.Far.{Far}
 use Rattle.view.proofs.Views.{grid-at, bins-at, neither}
 use Rattle.sites.specs.declared.Site.{Site}
-use Rattle.near_field.specs.Marks.{outsideOf}
+use Rattle.around.specs.Marks.{outsideOf}
 use Rattle.near_field.specs.declared.Judgment.the-variants.{Unjudged}
 use Rattle.nothing_near.specs.Nothing.{Place, cellPlace, binPlace, heard, placesHeard, places, positionsIn, nothingNearIn, nothingNear}
 use Rattle.nothing_near.specs.Sorted.{total}

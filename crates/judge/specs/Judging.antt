@@ -15,7 +15,7 @@ use Rattle.sites.specs.declared.Site.{Site}
 use Rattle.sites.specs.declared.Claimed.{Claimed}
 use Rattle.sites.specs.declared.Claimed.the-variants.{At, Nowhere}
 use Rattle.past_horizon.specs.Horizon.{pastHorizon}
-use Rattle.near_field.specs.Marks.{outsideOf}
+use Rattle.around.specs.Marks.{outsideOf}
 use Rattle.near_field.specs.Near.{nearField}
 use Rattle.near_field.specs.declared.Judgment.{Judgment}
 use Rattle.near_field.specs.declared.Judgment.the-variants.{Unjudged, Wrong}

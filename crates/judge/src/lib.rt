@@ -14,7 +14,6 @@ use floats::horizon::Past;
 use floats::steps;
 use near_field::Evidence;
 use near_field::Judgment;
-use near_field::marks;
 use near_field::near;
 use nothing_near::Empty;
 use sites::Claimed;
@@ -66,7 +65,7 @@ fn after_horizon(empty: Empty, grid: &[u32; 1600], far: Far, outside: bool) -> J
 fn judge_cells(site: Site, grid: &[u32; 1600], far: Far) -> Judgment
     ensures { λ r. ⌜ r ≡ judgeCells site (now (grid .entry)) far ⌝ }
 {
-    let outside = marks::outside(grid, far);
+    let outside = outside::outside(grid, far);
     let empty = empty_outside(grid, far, outside);
     match past_horizon::past_horizon(site, far) {
         Past::By(excess) => Judgment::Wrong {
@@ -105,7 +104,7 @@ fn after_far(empty: Empty) -> Judgment
 fn judge_far(site: Site, far: Far) -> Judgment
     ensures { λ r. ⌜ ((grid : List ℕ) → Unheard grid → r ≡ judgeCells site grid far) ⌝ }
 {
-    let outside = marks::outside_far(far);
+    let outside = outside::outside_far(far);
     let empty = empty_far(far, outside);
     match past_horizon::past_horizon(site, far) {
         Past::By(excess) => Judgment::Wrong {

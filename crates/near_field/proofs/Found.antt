@@ -10,12 +10,12 @@ use lib.Dec.{leb, ltb, eqb, leb·suc-suc}
 use Rattle.cells.specs.Passes.{howMany}
 use Rattle.cells.proofs.Passes.{pass-none, pass-next}
 use Rattle.near_field.specs.Sorted.{sorted, nth}
-use Rattle.near_field.specs.Plane.{square, apart, eastOf, northOf, dist, fromSite, within25}
-use Rattle.near_field.specs.Marks.{occ, near, marksOf, bitsIn, aroundOf, sectorsIn}
+use Rattle.plane.specs.Plane.{square, apart, eastOf, northOf, dist, fromSite, within25}
+use Rattle.around.specs.Marks.{occ, near, marksOf, bitsIn, aroundOf, sectorsIn}
 use Rattle.near_field.specs.Near.{cellsWithin, cellDistances, noHole, found, cellsAround, better, bestOf, member}
 use Rattle.near_field.proofs.Sorted.{those-length, those-nth}
-use Rattle.near_field.proofs.Counts.{some-at}
-use Rattle.near_field.proofs.Marked.{and-true, and-false}
+use Rattle.around.proofs.Counts.{some-at}
+use Rattle.around.proofs.Marked.{and-true, and-false}
 
 -- ---- cells within a distance of the site
 -- with three cells or more, the third nearest is under 6 half cells away where three are at most √35 away

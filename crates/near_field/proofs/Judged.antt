@@ -10,8 +10,8 @@ use Rattle.cells.specs.Passes.{pass, some, table}
 use Rattle.cells.proofs.Passes.{pass-all, some-none, table-same}
 use Rattle.view.specs.View.{Unheard}
 use Rattle.near_field.specs.Sorted.{those}
-use Rattle.near_field.specs.Plane.{square, said, fromSite}
-use Rattle.near_field.specs.Marks.{occ, near, inSector, marksOf, aroundOf, sectorsIn}
+use Rattle.plane.specs.Plane.{square, said, fromSite}
+use Rattle.around.specs.Marks.{occ, near, inSector, marksOf, aroundOf, sectorsIn}
 use Rattle.near_field.specs.Near.{cellDistances, noHole, better, bestOf, members, meanSquare, foundOf, bestOrNone, nearFieldBy, found, cellsAround}
 use Rattle.near_field.specs.declared.Judgment.the-variants.{Unjudged, Fits, Wrong}
 use Rattle.near_field.specs.declared.Evidence.the-variants.{NearField}

@@ -1,6 +1,3 @@
 -- The definitions that the contracts cite.
 pub mod Sorted
-pub mod Plane
-pub mod Marks
 pub mod Near
-pub mod Counts

@@ -7,8 +7,8 @@ use lib.Dec.{leb, ltb, eqb}
 use lib.ListN.{length}
 use Rattle.cells.specs.Passes.{pass, sumOf, howMany}
 use Rattle.near_field.specs.Sorted.{sorted, nth, those}
-use Rattle.near_field.specs.Plane.{eastOf, northOf, apart, square, dist, fromSite, within25, said}
-use Rattle.near_field.specs.Marks.{occ, near, aroundOf, sectorsIn}
+use Rattle.plane.specs.Plane.{eastOf, northOf, apart, square, dist, fromSite, within25, said}
+use Rattle.around.specs.Marks.{occ, near, aroundOf, sectorsIn}
 use Rattle.near_field.specs.declared.Judgment.{Judgment}
 use Rattle.near_field.specs.declared.Judgment.the-variants.{Unjudged, Fits, Wrong}
 use Rattle.near_field.specs.declared.Evidence.the-variants.{NearField}

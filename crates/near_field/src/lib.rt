@@ -1,8 +1,5 @@
-// The near field: what lies around a place of the grid.
-pub mod marks;
+// The near field: a judgment by what lies around the site, and around the places of the grid. Its words are those of every judging.
 pub mod near;
-pub mod plane;
-pub mod spans;
 
 // What a judging found.
 pub enum Judgment {
@@ -16,11 +13,4 @@ pub enum Evidence {
     Horizon,
     NearField,
     NothingNear,
-}
-
-// What lies around a place: the sectors that are marked, the aircraft bits, the cells.
-pub struct Nearby {
-    pub marks: [bool; 8],
-    pub aircraft: u32,
-    pub cells: u32,
 }

@@ -5,22 +5,13 @@ ghost use Prim.Native.Nat.{_+_, _*_, _≤_, _<_};
 ghost use lib.Dec.{leb, ltb};
 ghost use Rattle.cells.specs.Passes.{howMany, sumOf};
 ghost use Rattle.cells.specs.Cells.{occupiedWord};
-ghost use Rattle.near_field.specs.Plane.{eastOf, northOf, fromSite};
-ghost use Rattle.near_field.specs.Marks.{occ};
-ghost use Rattle.near_field.specs.Counts.{countsOf};
+ghost use Rattle.plane.specs.Plane.{eastOf, northOf, fromSite};
+ghost use Rattle.around.specs.Marks.{occ};
+ghost use Rattle.around.specs.Counts.{countsOf};
 ghost use Rattle.near_field.specs.Near.{cellsWithin, noHole, found, cellsAround, bestOf, member, members, meanSquare, foundOf, nearFieldBy, nearField};
 use super::Evidence;
 use super::Judgment;
-use super::marks;
-use super::plane;
-use super::spans;
-
-// v if yes, else 0.
-pub fn part(yes: bool, v: u32) -> u32
-    ensures { λ r. ⌜ (r ≡ cond yes v 0) × (r ≤ v) ⌝ }
-{
-    if yes { v } else { 0 }
-}
+use around::spans;
 
 // How many cells are occupied.
 pub fn occupied_cells(grid: &[u32; 1600]) -> u32
@@ -29,7 +20,7 @@ pub fn occupied_cells(grid: &[u32; 1600]) -> u32
     let mut n: u32 = 0;
     let mut i = 0;
     while i < 1600 {
-        n += part(cells::occupied(grid[i]), 1);
+        n += plane::part(cells::occupied(grid[i]), 1);
         i += 1;
     }
     n
@@ -53,7 +44,7 @@ pub fn cells_within(grid: &[u32; 1600], bound: u64) -> u32
     let mut n: u32 = 0;
     let mut i = 0;
     while i < 1600 {
-        n += part(is_within(grid[i], i, bound), 1);
+        n += plane::part(is_within(grid[i], i, bound), 1);
         i += 1;
     }
     n
@@ -79,7 +70,7 @@ fn found_cells(grid: &[u32; 1600], heard: &[u32; 1601], i: usize) -> u32
     }
     let x = plane::east_of(i);
     let y = plane::north_of(i);
-    if marks::sectors(spans::marks_around(heard, x, y)) < 7 {
+    if around::sectors(spans::marks_around(heard, x, y)) < 7 {
         return 0;
     }
     if spans::enough_bits(grid, x, y) {
@@ -152,9 +143,9 @@ fn group_of(grid: &[u32; 1600], heard: &[u32; 1601], best: usize) -> Group
     let mut i = 0;
     while i < 1600 {
         let yes = is_member(grid, heard, best, i);
-        n += part(yes, 1);
-        east += part(yes, plane::east_of(i));
-        north += part(yes, plane::north_of(i));
+        n += plane::part(yes, 1);
+        east += plane::part(yes, plane::east_of(i));
+        north += plane::part(yes, plane::north_of(i));
         i += 1;
     }
     Group {
@@ -186,9 +177,9 @@ pub fn near_field_by(grid: &[u32; 1600], outside: bool, scale: u64) -> Judgment
     requires { ⌜ scale ≤ 4 ⌝ }
     ensures { λ r. ⌜ r ≡ nearFieldBy scale (now (grid .entry)) outside ⌝ }
 {
-    let a = marks::around(grid, 40, 40);
+    let a = around::around(grid, 40, 40);
     let m = a.marks;
-    let s = marks::sectors(m);
+    let s = around::sectors(m);
     if 5 <= s {
         return Judgment::Fits;
     }

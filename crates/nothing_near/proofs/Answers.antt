@@ -7,7 +7,7 @@ use native.Mathlib.Omega.{arith}
 use borrow.Author.Tests.{ltb-true, ltb-false, le-leb, lt-leb}
 use lib.Dec.{ltb}
 use Rattle.view.specs.declared.Far.{Far}
-use Rattle.near_field.specs.Plane.{said}
+use Rattle.plane.specs.Plane.{said}
 use Rattle.nothing_near.specs.declared.Empty.the-variants.{Off, Heard}
 use Rattle.nothing_near.specs.Nothing.{km, placesHeard, third, positionsIn, nothingNearIn, nothingNear}
 use Rattle.nothing_near.specs.Counted.{typicalSteps}

@@ -5,7 +5,7 @@ use Prim.Native.Nat.{ℕ, _*_, max}
 use lib.ListN.{getD}
 use Rattle.cells.specs.Cells.{countOf}
 use Rattle.view.specs.declared.Far.{Far}
-use Rattle.near_field.specs.Plane.{square, said}
+use Rattle.plane.specs.Plane.{square, said}
 use Rattle.nothing_near.specs.declared.Empty.the-variants.{Off, Heard}
 use Rattle.nothing_near.specs.Sorted.{insert, ascending, firstReaching, total}
 use Rattle.nothing_near.specs.Nothing.{Place, km, edges, halfway, cellPlace, binPlace, placesHeard, thirdOrLast, third, positionsIn, typicalIn, nothingNearIn, nothingNear}

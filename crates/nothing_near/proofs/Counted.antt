@@ -13,7 +13,7 @@ use Rattle.cells.specs.Cells.{countOf, occupiedWord}
 use Rattle.cells.specs.Passes.{sumOf, first}
 use Rattle.cells.proofs.Passes.{pass-all}
 use Rattle.view.specs.declared.Far.{Far}
-use Rattle.near_field.specs.Plane.{square, fromSite, steps}
+use Rattle.plane.specs.Plane.{square, fromSite, steps}
 use Rattle.near_field.specs.Near.{cellsWithin}
 use Rattle.nothing_near.specs.Nothing.{Place, nearestOf, typicalOf, positionsOf, km, edges, halfway, cellPlace, binPlace, heard, placesHeard, places, positionsIn}
 use Rattle.nothing_near.specs.Counted.{positionsAmong, occupiedAmong, nearCells, cellStep, binStep}

@@ -14,7 +14,7 @@ use Rattle.cells.proofs.Passes.{pass-next}
 use Rattle.cells.specs.Cells.{countOf}
 use Rattle.cells.specs.Passes.{pass, sumOf}
 use Rattle.cells.proofs.Words.{count-small}
-use Rattle.near_field.specs.Plane.{steps}
+use Rattle.plane.specs.Plane.{steps}
 use Rattle.nothing_near.specs.Counted.{noSteps, gather, below, cellStep, binStep, cellSteps}
 use Rattle.nothing_near.proofs.Sums.{sum-next, sum-le}
 use Rattle.nothing_near.proofs.Steps.{cell-below, bin-below}
@@ -105,6 +105,10 @@ pub gather-next : (step : ℕ → ℕ) (words start at : List ℕ) (i : ℕ) →
     → set at (step i) (getD at (step i) 0 + countOf (getD words i 0)) ≡ pass (gather step words) start (i + 1)
 unfolding gather
 gather-next step words start at i e = ap (gather step words i) e ∙ sym (pass-next (gather step words) start i)
+
+-- the same place and positions, the same store
+pub gather-same : (at : List ℕ) {k k′ c c′ : ℕ} → k ≡ k′ → c ≡ c′ → set at k (getD at k 0 + c) ≡ set at k′ (getD at k′ 0 + c′)
+gather-same at p q = cc
 
 -- no positions change nothing
 pub gather-none : (at : List ℕ) (k c : ℕ) → c ≡ 0 → at ≡ set at k (getD at k 0 + c)

@@ -6,8 +6,8 @@ use Prim.Native.Nat.{ℕ, _*_, _≤_}
 use native.Mathlib.Omega.{arith}
 use lib.Dec.{leb}
 use Rattle.view.specs.declared.Far.{Far}
-use Rattle.near_field.specs.Plane.{said}
-use Rattle.near_field.proofs.Squares.{said-step}
+use Rattle.plane.specs.Plane.{said}
+use Rattle.plane.proofs.Squares.{said-step}
 use Rattle.nothing_near.specs.declared.Empty.the-variants.{Off, Heard}
 use Rattle.nothing_near.specs.Nothing.{km, placesHeard, third, positionsIn, typicalIn, nothingNearIn, nothingNear}
 

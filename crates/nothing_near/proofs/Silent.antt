@@ -14,8 +14,8 @@ use Rattle.cells.specs.Passes.{sumOf, howMany}
 use Rattle.cells.proofs.Passes.{pass-all, pass-skip}
 use Rattle.cells.proofs.Words.{zero-free}
 use Rattle.view.specs.View.{Unheard}
-use Rattle.near_field.specs.Plane.{northOf, apart, square, fromSite}
-use Rattle.near_field.proofs.Squares.{square-le}
+use Rattle.plane.specs.Plane.{northOf, apart, square, fromSite}
+use Rattle.plane.proofs.Squares.{square-le}
 use Rattle.nothing_near.specs.Nothing.{km}
 use Rattle.nothing_near.specs.Counted.{positionsAmong, nearCells, cellStep, noSteps, gather, cellSteps}
 use Rattle.nothing_near.proofs.Sums.{sum-next}

@@ -10,8 +10,8 @@ use borrow.Author.Tests.{leb-true, ltb-true, lt-ltb, le-ltb}
 use lib.Dec.{leb, ltb, leb·suc-suc}
 use lib.ListN.{getD}
 use Rattle.cells.proofs.Passes.{first-le, first-bound, first-unique}
-use Rattle.near_field.specs.Plane.{square, steps, fromSite}
-use Rattle.near_field.proofs.Squares.{square-le}
+use Rattle.plane.specs.Plane.{square, steps, fromSite}
+use Rattle.plane.proofs.Squares.{square-le}
 use Rattle.nothing_near.specs.Nothing.{km, edges, halfway}
 use Rattle.nothing_near.specs.Counted.{cellStep, binStep}
 

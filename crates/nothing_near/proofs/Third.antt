@@ -9,7 +9,7 @@ use borrow.Author.Tests.{leb-true, leb-false, le-leb, lt-leb}
 use lib.Dec.{leb, ltb, leb·suc-suc}
 use lib.ListN.{length}
 use Rattle.view.specs.declared.Far.{Far}
-use Rattle.near_field.specs.Plane.{square}
+use Rattle.plane.specs.Plane.{square}
 use Rattle.nothing_near.specs.Sorted.{total}
 use Rattle.nothing_near.specs.Nothing.{Place, nearestOf, km, placesHeard, places, thirdOrLast, third, positionsIn}
 use Rattle.nothing_near.specs.Counted.{nearCells}

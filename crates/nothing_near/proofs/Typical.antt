@@ -11,7 +11,7 @@ use lib.ListN.{getD}
 use Rattle.cells.specs.Passes.{first}
 use Rattle.cells.proofs.Passes.{first-unique}
 use Rattle.view.specs.declared.Far.{Far}
-use Rattle.near_field.specs.Plane.{steps}
+use Rattle.plane.specs.Plane.{steps}
 use Rattle.nothing_near.specs.Sorted.{total}
 use Rattle.nothing_near.specs.Nothing.{typicalOf, positionsOf, km, placesHeard, positionsIn, typicalIn}
 use Rattle.nothing_near.specs.Counted.{allSteps, below, reachedAt, typicalSteps}

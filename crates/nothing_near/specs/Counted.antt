@@ -6,7 +6,7 @@ use lib.Dec.{leb}
 use lib.ListN.{getD, set, replicate}
 use Rattle.cells.specs.Cells.{countOf, occupiedWord}
 use Rattle.cells.specs.Passes.{pass, sumOf, howMany, first}
-use Rattle.near_field.specs.Plane.{fromSite, steps}
+use Rattle.plane.specs.Plane.{fromSite, steps}
 use Rattle.near_field.specs.Near.{cellsWithin}
 use Rattle.nothing_near.specs.Nothing.{km, edges, halfway}
 

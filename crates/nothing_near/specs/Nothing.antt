@@ -9,7 +9,7 @@ use Rattle.angles.specs.Sphere as bands
 use Rattle.cells.specs.Cells.{countOf, occupiedWord}
 use Rattle.cells.specs.Passes.{pass}
 use Rattle.view.specs.declared.Far.{Far}
-use Rattle.near_field.specs.Plane.{square, fromSite, said}
+use Rattle.plane.specs.Plane.{square, fromSite, said}
 use Rattle.nothing_near.specs.Sorted.{ascending, firstReaching, total}
 use Rattle.nothing_near.specs.declared.Empty.{Empty}
 use Rattle.nothing_near.specs.declared.Empty.the-variants.{Off, Heard}

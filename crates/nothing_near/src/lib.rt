@@ -11,7 +11,6 @@ ghost use Rattle.view.specs.View.{Unheard};
 ghost use Rattle.nothing_near.specs.Nothing.{km, placesHeard, places, third, positionsIn, nothingNear};
 ghost use Rattle.nothing_near.specs.Counted.{positionsAmong, occupiedAmong, nearCells, cellStep, binStep, cellSteps, allSteps, reachedAt};
 use near_field::near;
-use near_field::plane;
 use view::Far;
 
 // The distance said, km, where nothing is near.
@@ -42,7 +41,7 @@ fn occupied_among(words: &[u32]) -> u32
     let mut n: u32 = 0;
     let mut i = 0;
     while i < words.len() {
-        n += near::part(cells::occupied(words[i]), 1);
+        n += plane::part(cells::occupied(words[i]), 1);
         i += 1;
     }
     n
@@ -63,7 +62,7 @@ fn near_cells(grid: &[u32; 1600]) -> u32
     let mut n: u32 = 0;
     let mut i = 320;
     while i < 1280 {
-        n += near::part(near::is_within(grid[i], i, 575), 1);
+        n += plane::part(near::is_within(grid[i], i, 575), 1);
         if n == 3 {
             return 3;
         }

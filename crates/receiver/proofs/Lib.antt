@@ -1,4 +1,3 @@
 pub mod Keeps
 pub mod RunLaws
 pub mod SiteLaws
-pub mod RowLaws

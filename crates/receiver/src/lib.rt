@@ -4,7 +4,6 @@ use near_field::Judgment;
 use sites::Claimed;
 use view::EpochId;
 
-pub mod row;
 pub mod run;
 pub mod site;
 

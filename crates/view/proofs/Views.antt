@@ -11,6 +11,7 @@ use Rattle.cells.specs.Cells.{countOf, emptyWord, occupiedWord}
 use Rattle.cells.specs.Passes.{pass, sumOf, some}
 use Rattle.cells.proofs.Passes.{some-turn, some-same, some-none, some-not, some-or, some-and, table-length, table-at}
 use Rattle.cells.proofs.Words.{count-small, zero-free, empty-count, empty-fits, empty-merged, merged-empty, merged-occupied, both-occupied}
+use Rattle.view.specs.declared.Far.{Far}
 use Rattle.view.specs.View.{mergedOf, mergedAt, gridOf, heardIn, Unheard, heardAt, binsOf, positionsOf, farOf}
 
 module _ (cells : List ℕ) (even odd : Bool) where
@@ -91,3 +92,8 @@ positions-small bins = some-small bins 72
 pub far-small : (cells : List ℕ) (even odd : Bool) → farOf cells even odd .positions ≤ 18360
 unfolding farOf
 far-small cells even odd = positions-small (binsOf cells even odd)
+
+-- the bins with their sum
+pub far-is : (cells : List ℕ) (even odd : Bool) (bins : List ℕ) (n : ℕ) → bins ≡ binsOf cells even odd → n ≡ positionsOf bins → _≡_ {A = Far} (record { cells = bins; positions = n }) (farOf cells even odd)
+unfolding farOf
+far-is cells even odd bins n e p = cc

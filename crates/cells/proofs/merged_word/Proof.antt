@@ -1,6 +1,6 @@
 -- Taken apart, merged and packed, as in the definition.
 use borrow.Author.Needs.{needs}
-use Rattle.cells.specs.Cells.{mergedWord}
+use Rattle.cells.proofs.Words.{merged-as}
 use Rattle.cells.proofs.merged_word.Statement.{statement}
 use Rattle.cells.proofs.merged_word.Tie as tie
 
@@ -17,8 +17,7 @@ pack-requires : tie.Need-pack-requires
 pack-requires c κs = search needs
 
 returns : tie.Need-returns
-unfolding mergedWord
-returns c = cc
+returns c = merged-as _ _ (c .pack .ensures) (c .before .merged .ensures) (c .before .before .before .unpack .ensures) (c .before .before .unpack2 .ensures)
 
 pub merged-word-spec : {M : Type 1} → statement M
 merged-word-spec =

@@ -1,6 +1,6 @@
 -- The views are the definition's; where no cell of the grid is occupied the bins alone are judged, and where neither half is merged the
 -- answer is Unjudged (Unheard).
-use mathlib.Core.Path.{sym, ap, _∙_}
+use mathlib.Core.Path.{sym, ap, ap₂, _∙_}
 use Rattle.view.specs.View.{gridOf}
 use Rattle.view.proofs.Views.{unheard}
 use Rattle.judge.specs.Judging.{judgeCells, judgeRow}
@@ -26,7 +26,9 @@ judge-cells-requires c κs = search needs
 
 returns : tie.Need-returns
 unfolding judgeRow
-returns c = cc (c .judge-cells .ensures, c .before .before .before .before .before .far-view .ensures, c .before .before .grid-view .ensures)
+returns c =
+    let s = c .before .before .before .before .before .before .before .before .before .args in
+    c .judge-cells .ensures ∙ ap₂ (judgeCells (s .site)) (c .before .before .grid-view .ensures) (c .before .before .before .before .before .far-view .ensures)
 
 judge-far-requires : tie.Need-judge-far-requires
 judge-far-requires c κs = search needs

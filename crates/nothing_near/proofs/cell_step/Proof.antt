@@ -1,9 +1,10 @@
--- The distance is the cell's from the site, and its steps are near_field's.
-use mathlib.Core.Path.{ap, _∙_}
+-- The distance is the cell's from the site, and its steps are the plane's.
+use mathlib.Core.Path.{refl, ap, _∙_}
 use Prim.Native.Nat.{ℕ}
 use native.Mathlib.Omega.{arith}
 use borrow.Author.Needs.{needs}
-use Rattle.near_field.specs.Plane.{steps}
+use Rattle.plane.specs.Plane.{steps}
+use Rattle.plane.proofs.Same.{same-dist}
 use Rattle.nothing_near.specs.Counted.{cellStep}
 use Rattle.nothing_near.proofs.cell_step.Statement.{statement}
 use Rattle.nothing_near.proofs.cell_step.Tie as tie
@@ -25,7 +26,7 @@ cast-result c = search needs
 
 returns : tie.Need-returns
 unfolding cellStep
-returns c = (c .steps-of .ensures .0 ∙ ap (λ (d : ℕ). steps d 1) (c .before .distance .ensures .0 ∙ cc), omega arith)
+returns c = (c .steps-of .ensures .0 ∙ ap (λ (d : ℕ). steps d 1) (c .before .distance .ensures .0 ∙ same-dist (c .before .before .before .east-of .ensures) (c .before .before .north-of .ensures) refl refl), omega arith)
 
 pub cell-step-spec : {M : Type 1} → statement M
 cell-step-spec =

@@ -7,7 +7,7 @@ use lib.ListN.{getD}
 use Rattle.cells.proofs.Words.{count-small}
 use Rattle.cells.specs.Cells.{countOf}
 use Rattle.nothing_near.specs.Counted.{cellStep}
-use Rattle.nothing_near.proofs.Gathered.{gather-none}
+use Rattle.nothing_near.proofs.Gathered.{gather-same, gather-none}
 use Rattle.nothing_near.proofs.gather_cell.Statement.{statement}
 use Rattle.nothing_near.proofs.gather_cell.Tie as tie
 
@@ -36,7 +36,7 @@ element-write-at : tie.Need-element-write-at
 element-write-at c = search needs
 
 returns-2 : tie.Need-returns-2
-returns-2 c = cc (c .before .cell-step .ensures .0, c .before .before .before .count-of .ensures)
+returns-2 c = gather-same (c .before .before .before .before .args .at .now) (c .before .cell-step .ensures .0) (c .before .before .before .count-of .ensures)
 
 pub gather-cell-spec : {M : Type 1} → statement M
 gather-cell-spec =

@@ -1,11 +1,12 @@
 -- The loop counts what `occupiedAmong` does.
-use mathlib.Core.Path.{_≡_, sym}
+use mathlib.Core.Path.{_≡_, refl, sym}
 use Prim.Native.Nat.{ℕ, _-_, _≤_}
 use native.Mathlib.Omega.{arith}
 use borrow.Author.Needs.{needs}
 use lib.ListN.{length, getD}
 use Rattle.cells.proofs.Passes.{pass-none, sum-step}
 use Rattle.cells.specs.Cells.{occupiedWord}
+use Rattle.plane.proofs.Same.{part-of}
 use Rattle.nothing_near.specs.Counted.{occupiedAmong}
 use Rattle.nothing_near.proofs.occupied_among.Statement.{statement}
 use Rattle.nothing_near.proofs.occupied_among.Tie as tie
@@ -43,7 +44,7 @@ loop-less c = search needs
 
 loop-again : tie.Need-loop-again Inv-loop μ-loop
 unfolding occupiedAmong
-loop-again c = let l = c .before .before .before .before .loop in (search needs, sum-step (λ (k : ℕ). occupiedWord (getD (c .before .before .before .before .before .before .args .words .now) k 0)) (λ (k : ℕ). 1) (l .n) (c .part .result) (l .i) (l .inv .1) (cc), omega arith)
+loop-again c = let l = c .before .before .before .before .loop in (search needs, sum-step (λ (k : ℕ). occupiedWord (getD (c .before .before .before .before .before .before .args .words .now) k 0)) (λ (k : ℕ). 1) (l .n) (c .part .result) (l .i) (l .inv .1) (part-of (c .part .ensures .0) (c .before .occupied .ensures) refl), omega arith)
 
 returns : tie.Need-returns Inv-loop μ-loop
 returns c = let l = c .before .loop in let e : l .i ≡ length (c .before .before .before .args .words .now) = omega arith in (rw e at (l .inv .1), omega arith)

@@ -1,16 +1,16 @@
 -- The loop gathers the bins on top of the cells, a word at a turn (`gather-next`); one that is not occupied changes nothing (`gather-none`).
 use mathlib.Core.List.{List}
 use mathlib.Core.Path.{_≡_, sym, ap, _∙_}
-use Prim.Native.Nat.{ℕ, _+_, _-_, _≤_}
+use Prim.Native.Nat.{ℕ, _-_, _≤_}
 use native.Mathlib.Omega.{arith}
 use borrow.Author.Tests.{ltb-false}
-use lib.ListN.{getD, set}
+use lib.ListN.{getD}
 use Rattle.cells.proofs.Words.{count-small}
 use Rattle.cells.proofs.Passes.{pass-none}
 use Rattle.cells.specs.Passes.{pass}
 use Rattle.cells.specs.Cells.{countOf}
-use Rattle.nothing_near.specs.Counted.{binStep, gather, cellSteps, allSteps}
-use Rattle.nothing_near.proofs.Gathered.{bins-below-fit, gather-next, gather-none}
+use Rattle.nothing_near.specs.Counted.{binStep, gather, allSteps}
+use Rattle.nothing_near.proofs.Gathered.{bins-below-fit, gather-next, gather-same, gather-none}
 use borrow.Author.Needs.{needs}
 use Rattle.nothing_near.proofs.with_bins.Statement.{statement}
 use Rattle.nothing_near.proofs.with_bins.Tie as tie
@@ -75,8 +75,7 @@ loop-again c =
     let l = c .before .before .before .before .before .loop in
     let s = c .before .before .before .before .before .before .args in (
       search needs,
-      ap (λ (n : ℕ). set (l .at) (c .before .bin-step .result) (getD (l .at) (c .before .bin-step .result) 0 + n)) (c .count-of .ensures)
-          ∙ ap (λ (k : ℕ). set (l .at) k (getD (l .at) k 0 + countOf (getD (s .t2) (l .j) 0))) (c .before .bin-step .ensures .0)
+      gather-same (l .at) (c .before .bin-step .ensures .0) (c .count-of .ensures)
           ∙ gather-next binStep (s .t2) (s .cells) (l .at) (l .j) (l .inv .1),
     )
 

@@ -1,6 +1,8 @@
 -- Both words are what heard answers, and are merged.
 use borrow.Author.Needs.{needs}
 use Rattle.view.specs.View.{mergedOf, mergedAt}
+use mathlib.Core.Path.{ap₂, _∙_}
+use Rattle.cells.specs.Cells.{mergedWord}
 use Rattle.view.proofs.merged_at.Statement.{statement}
 use Rattle.view.proofs.merged_at.Tie as tie
 
@@ -30,7 +32,7 @@ merged-word-requires c κs = search needs
 
 returns : tie.Need-returns
 unfolding mergedOf mergedAt
-returns c = cc
+returns c = c .merged-word .ensures ∙ ap₂ mergedWord (c .before .before .before .heard .ensures) (c .before .heard2 .ensures)
 
 pub merged-at-spec : {M : Type 1} → statement M
 merged-at-spec =

@@ -1,6 +1,6 @@
 -- Each part is what its helper answers.
 use borrow.Author.Needs.{needs}
-use Rattle.cells.specs.Cells.{merge}
+use Rattle.cells.proofs.Words.{cell-merged}
 use Rattle.cells.proofs.Cell.merged.Statement.{statement}
 use Rattle.cells.proofs.Cell.merged.Tie as tie
 
@@ -11,8 +11,7 @@ least-requires : tie.Need-least-requires
 least-requires c κs = search needs
 
 returns : tie.Need-returns
-unfolding merge
-returns c = cc
+returns c = cell-merged _ _ _ _ (c .before .before .before .stopped-sum .ensures) (c .before .before .least .ensures)
 
 pub merged-spec : {M : Type 1} → statement M
 merged-spec = tie.close (tie.spec stopped-sum-requires least-requires returns)

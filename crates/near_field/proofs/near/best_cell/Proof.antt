@@ -1,7 +1,7 @@
 -- After i cells b is the best of the first i, with the cells around it, 0 where there is none (`best-step`, `best-cells`).
 use Rattle.near_field.proofs.Found.{most, best-none, best-step, best-cells}
 use Rattle.near_field.specs.Near.{bestOf}
-use Rattle.near_field.specs.Marks.{near}
+use Rattle.around.specs.Marks.{near}
 use native.Mathlib.Omega.{arith}
 use mathlib.Core.Path.{_≡_, refl}
 use Prim.Native.Nat.{_-_, _/_, _≤_}

@@ -1,13 +1,14 @@
 -- After i cells n is how many of the first i lie within the bound (`sum-step`).
-use Rattle.near_field.specs.Marks.{occ}
-use Rattle.near_field.specs.Plane.{fromSite}
+use Rattle.around.specs.Marks.{occ}
+use Rattle.plane.specs.Plane.{fromSite}
+use Rattle.plane.proofs.Same.{part-of}
 use Rattle.cells.proofs.Passes.{sum-step, pass-none}
 use Rattle.cells.specs.Passes.{howMany}
 use lib.Dec.{leb}
 use native.Mathlib.Omega.{arith}
 use Prim.Native.Nat.{ℕ, _-_, _/_, _≤_}
 use mathlib.Core.Bool.{_&&_}
-use mathlib.Core.Path.{_≡_, sym}
+use mathlib.Core.Path.{_≡_, refl, sym}
 use borrow.Author.Needs.{needs}
 use Rattle.near_field.proofs.near.cells_within.Statement.{statement}
 use Rattle.near_field.proofs.near.cells_within.Tie as tie
@@ -57,7 +58,7 @@ loop-again c =
     let s = c .before .before .before .before .before .args in (
       search needs,
       sum-step (λ (k : ℕ). occ (s .grid .now) k && leb (fromSite k) (s .bound)) (λ (j : ℕ). 1) (l .n) (c .part .result) (l .i)
-          (l .inv .1) (cc),
+          (l .inv .1) (part-of (c .part .ensures .0) (c .before .is-within .ensures) refl),
       omega arith,
     )
 

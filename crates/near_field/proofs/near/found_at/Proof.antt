@@ -1,20 +1,30 @@
 -- The mean's squared distance is m / n² (`mean`): under 10 half cells, or said in steps.
 use native.Mathlib.Nat.{mul-le-mul}
 use Rattle.near_field.proofs.Judged.{mean-under, mean-over}
-use Rattle.near_field.proofs.Squares.{ten-square}
-use Rattle.near_field.specs.Near.{meanSquare}
+use Rattle.plane.proofs.Squares.{ten-square}
+use Rattle.cells.specs.Passes.{sumOf}
+use Rattle.plane.specs.Plane.{eastOf, northOf, apart, square}
+use Rattle.near_field.specs.Near.{member, members, meanSquare}
 use native.Mathlib.Omega.{arith}
-use Prim.Native.Nat.{_+_, _/_}
+use Prim.Native.Nat.{ℕ, _+_, _*_, _/_}
+use mathlib.Core.List.{List}
 use mathlib.Core.Path.{_≡_}
 use borrow.Author.Needs.{needs}
 use Rattle.near_field.proofs.near.found_at.Statement.{statement}
 use Rattle.near_field.proofs.near.found_at.Tie as tie
 
-mean : (c : tie.After-gap2) → c .before .before .gap .result + c .gap2 .result ≡ meanSquare (c .before .before .before .before .before .before .args .grid .now) (c .before .before .before .before .before .before .args .best)
+-- the mean's squared distance, from the sums and how many they are
+mean-of :
+    (g : List ℕ) (best a b e n k : ℕ) → a ≡ square (apart e (40 * k)) → b ≡ square (apart n (40 * k))
+    → k ≡ members g best → e ≡ sumOf (member g best) eastOf 1600 → n ≡ sumOf (member g best) northOf 1600 → a + b ≡ meanSquare g best
 unfolding meanSquare
+mean-of g best a b e n k p q r s t = cc
+
+mean : (c : tie.After-gap2) → c .before .before .gap .result + c .gap2 .result ≡ meanSquare (c .before .before .before .before .before .before .args .grid .now) (c .before .before .before .before .before .before .args .best)
 mean c =
     let g = c .before .before .before .before .before .group-of .ensures in
-    cc (c .before .before .gap .ensures .0, c .gap2 .ensures .0, g .0, g .1, g .2)
+    let s = c .before .before .before .before .before .before .args in
+    mean-of (s .grid .now) (s .best) _ _ _ _ _ (c .before .before .gap .ensures .0) (c .gap2 .ensures .0) (g .0) (g .1) (g .2)
 
 -- src/near.rt:161:9
 group-of-requires : tie.Need-group-of-requires

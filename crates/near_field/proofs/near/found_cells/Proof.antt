@@ -1,7 +1,7 @@
 -- A law for each way out: empty, too few sectors, found, too few bits. `many` and `heard` say the callees' answers at the cell's own east and north.
 use Rattle.near_field.proofs.Found.{f-empty, f-sectors, f-bits, f-found}
-use Rattle.near_field.specs.Marks.{near, marksOf, bitsIn, sectorsIn}
-use Rattle.near_field.specs.Plane.{eastOf, northOf}
+use Rattle.around.specs.Marks.{near, marksOf, bitsIn, sectorsIn}
+use Rattle.plane.specs.Plane.{eastOf, northOf}
 use Rattle.cells.specs.Passes.{howMany}
 use lib.Dec.{leb}
 use lib.Count.{ones}

@@ -1,12 +1,13 @@
 -- After i cells the sums are those of the members among the first i (`sum-step`).
 use Rattle.cells.specs.Passes.{sumOf}
 use Rattle.near_field.specs.Near.{member}
-use Rattle.near_field.specs.Marks.{near}
-use Rattle.near_field.specs.Plane.{eastOf, northOf}
+use Rattle.around.specs.Marks.{near}
+use Rattle.plane.specs.Plane.{eastOf, northOf}
+use Rattle.plane.proofs.Same.{part-of}
 use Rattle.cells.proofs.Passes.{pass-none, sum-step}
 use Rattle.cells.specs.Passes.{howMany}
 use native.Mathlib.Omega.{arith}
-use mathlib.Core.Path.{_≡_, sym}
+use mathlib.Core.Path.{_≡_, refl, sym}
 use Prim.Native.Nat.{ℕ, _-_, _*_, _/_, _≤_}
 use borrow.Author.Needs.{needs}
 use Rattle.near_field.proofs.near.group_of.Statement.{statement}
@@ -73,12 +74,13 @@ loop-again : tie.Need-loop-again Inv-loop μ-loop
 loop-again c =
     let l = c .before .before .before .before .before .before .before .loop in
     let s = c .before .before .before .before .before .before .before .before .args in
-    let p = member (s .grid .now) (s .best) in (
+    let p = member (s .grid .now) (s .best) in
+    let yes = c .before .before .before .before .before .is-member .ensures in (
       search needs,
-      sum-step p (λ (j : ℕ). 1) (l .n) (c .before .before .before .before .part .result) (l .i) (l .inv .1) (cc),
+      sum-step p (λ (j : ℕ). 1) (l .n) (c .before .before .before .before .part .result) (l .i) (l .inv .1) (part-of (c .before .before .before .before .part .ensures .0) yes refl),
       sum-step p eastOf
-          (l .east) (c .before .before .part2 .result) (l .i) (l .inv .2) (cc),
-      sum-step p northOf (l .north) (c .part3 .result) (l .i) (l .inv .3) (cc),
+          (l .east) (c .before .before .part2 .result) (l .i) (l .inv .2) (part-of (c .before .before .part2 .ensures .0) yes (c .before .before .before .east-of .ensures)),
+      sum-step p northOf (l .north) (c .part3 .result) (l .i) (l .inv .3) (part-of (c .part3 .ensures .0) yes (c .before .north-of .ensures)),
       omega arith,
       omega arith,
       omega arith,

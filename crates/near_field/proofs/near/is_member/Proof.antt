@@ -1,6 +1,8 @@
 -- A cell over 25 km away is no member; any other is one where it is found, and a found cell has a cell around it.
+use mathlib.Core.Path.{_∙_}
 use Rattle.near_field.proofs.Found.{member-far, member-near}
-use Rattle.near_field.specs.Marks.{near}
+use Rattle.plane.proofs.Same.{same-dist}
+use Rattle.around.specs.Marks.{near}
 use Prim.Native.Nat.{_/_}
 use borrow.Author.Needs.{needs}
 use Rattle.near_field.proofs.near.is_member.Statement.{statement}
@@ -35,7 +37,7 @@ returns c =
     let c6 = c5 .before in
     let s = c6 .args in
     member-far (s .grid .now) (s .best) (s .i) (c .before .distance .result)
-    (cc (c .before .distance .ensures .0, c .before .before .north-of2 .ensures, c3 .east-of2 .ensures, c4 .north-of .ensures, c5 .east-of .ensures))
+    (c .before .distance .ensures .0 ∙ same-dist (c5 .east-of .ensures) (c4 .north-of .ensures) (c3 .east-of2 .ensures) (c .before .before .north-of2 .ensures))
     (c .if1 .taken)
 
 -- src/near.rt:135:9
@@ -52,7 +54,7 @@ returns-2 c =
     let c7 = c6 .before in
     let s = c7 .args in
     member-near (s .grid .now) (s .best) (s .i) (c .before .before .distance .result) _ (c7 .pre .1)
-    (cc (c .before .before .distance .ensures .0, c3 .north-of2 .ensures, c4 .east-of2 .ensures, c5 .north-of .ensures, c6 .east-of .ensures))
+    (c .before .before .distance .ensures .0 ∙ same-dist (c6 .east-of .ensures) (c5 .north-of .ensures) (c4 .east-of2 .ensures) (c3 .north-of2 .ensures))
     (c .before .if1 .left) (c .found-cells .ensures)
 
 pub is-member-spec : {M : Type 1} → statement M

@@ -1,8 +1,9 @@
 -- An empty cell is not; any other is by its distance from the site.
-use Rattle.near_field.specs.Marks.{near}
+use Rattle.around.specs.Marks.{near}
+use Rattle.plane.proofs.Same.{same-dist}
 use lib.Dec.{leb}
 use borrow.Author.Tests.{not-true, not-false}
-use mathlib.Core.Path.{sym, ap, _∙_}
+use mathlib.Core.Path.{refl, sym, ap, _∙_}
 use Prim.Native.Nat.{ℕ, _/_}
 use borrow.Author.Needs.{needs}
 use Rattle.near_field.proofs.near.is_within.Statement.{statement}
@@ -36,7 +37,7 @@ returns-2 c =
     let c5 = c4 .before in
     let s = c5 .args in
     rw (sym (c4 .occupied .ensures) ∙ not-false _ (c3 .if1 .left))
-    (ap (λ (n : ℕ). leb n (s .bound)) (cc (c .distance .ensures .0, c .before .north-of .ensures, c .before .before .east-of .ensures)))
+    (ap (λ (n : ℕ). leb n (s .bound)) (c .distance .ensures .0 ∙ same-dist (c .before .before .east-of .ensures) (c .before .north-of .ensures) refl refl))
 
 pub is-within-spec : {M : Type 1} → statement M
 is-within-spec =

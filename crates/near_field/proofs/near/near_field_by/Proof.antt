@@ -1,8 +1,8 @@
 -- In 01's order: each answer is a law of Judged, told by the tests that came before it.
 use Rattle.near_field.proofs.Judged.{nf-fits, nf-four, nf-inside, nf-hole, nf-rest, no-best, a-best, best-below}
-use Rattle.near_field.specs.declared.Nearby.{Nearby}
+use Rattle.around.specs.declared.Nearby.{Nearby}
 use Rattle.near_field.specs.Near.{bestOrNone}
-use Rattle.near_field.specs.Marks.{aroundOf, sectorsIn}
+use Rattle.around.specs.Marks.{aroundOf, sectorsIn}
 use borrow.Author.Tests.{not-true, not-false}
 use Prim.Native.Nat.{_/_}
 use mathlib.Core.Path.{_≡_, sym, ap, _∙_}

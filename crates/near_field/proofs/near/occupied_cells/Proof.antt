@@ -1,10 +1,11 @@
 -- After i cells n is how many of the first i are occupied (`sum-step`).
-use Rattle.near_field.specs.Marks.{occ}
+use Rattle.around.specs.Marks.{occ}
+use Rattle.plane.proofs.Same.{part-of}
 use Rattle.cells.proofs.Passes.{sum-step, pass-none}
 use Rattle.cells.specs.Passes.{howMany}
 use native.Mathlib.Omega.{arith}
 use Prim.Native.Nat.{ℕ, _-_, _/_, _≤_}
-use mathlib.Core.Path.{_≡_, sym}
+use mathlib.Core.Path.{_≡_, refl, sym}
 use borrow.Author.Needs.{needs}
 use Rattle.near_field.proofs.near.occupied_cells.Statement.{statement}
 use Rattle.near_field.proofs.near.occupied_cells.Tie as tie
@@ -53,7 +54,7 @@ loop-again c =
     let l = c .before .before .before .before .loop in (
       search needs,
       sum-step (occ (c .before .before .before .before .before .args .grid .now)) (λ (j : ℕ). 1) (l .n) (c .part .result) (l .i)
-          (l .inv .1) (cc),
+          (l .inv .1) (part-of (c .part .ensures .0) (c .before .occupied .ensures) refl),
       omega arith,
     )
 

@@ -18,11 +18,14 @@ same-length c = search needs
 
 -- src/site.rt:239:1
 returns : tie.Need-returns
-returns c = search (half-emptied, needs)
+returns c =
+    let c5 = c .before .before .before .before .before in
+    let s = c5 .before .before .args in
+    half-emptied (s .c) (s .cells .now) (c .before .before .empty .last .0) (c5 .if1 .taken) (c .before .before .empty .ensures)
 
 -- src/site.rt:239:1
 returns-2 : tie.Need-returns-2
-returns-2 c = search (half-emptied, half-kept, needs)
+returns-2 c = let s = c .before .before .args in half-kept (s .c) (s .cells .now) (c .if1 .left)
 
 pub empty-half-spec : {M : Type 1} → statement M
 empty-half-spec = tie.close (tie.spec cast-empty empty-requires same-length returns returns-2)

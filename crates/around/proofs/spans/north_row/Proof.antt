@@ -1,0 +1,144 @@
+-- The four spans are those of `northSpans`, and a law of Rows says what they mark.
+use mathlib.Core.Path.{ap, _∙_}
+use Prim.Native.Nat.{ℕ, _+_, _-_}
+use Rattle.around.specs.Counts.{cutAt}
+use Rattle.around.proofs.Rows.{four-spans, north-marks}
+use borrow.Author.Needs.{needs}
+use Rattle.around.proofs.spans.north_row.Statement.{statement}
+use Rattle.around.proofs.spans.north_row.Tie as tie
+
+-- src/spans.rt:94:33
+cast-between : tie.Need-cast-between
+cast-between c = search needs
+
+-- src/spans.rt:94:28
+mul-between : tie.Need-mul-between
+mul-between c = search needs
+
+-- src/spans.rt:94:28
+add-between : tie.Need-add-between
+add-between c = search needs
+
+-- src/spans.rt:94:9
+between-requires : tie.Need-between-requires
+between-requires c κs = search needs
+
+-- src/spans.rt:95:9
+reach-requires : tie.Need-reach-requires
+reach-requires c κs = search needs
+
+-- src/spans.rt:96:25
+less-requires : tie.Need-less-requires
+less-requires c κs = search needs
+
+-- src/spans.rt:96:9
+cut-requires : tie.Need-cut-requires
+cut-requires c κs = search needs
+
+-- src/spans.rt:97:46
+lesser-requires : tie.Need-lesser-requires
+lesser-requires c κs = search needs
+
+-- src/spans.rt:97:31
+less-requires-2 : tie.Need-less-requires-2
+less-requires-2 c κs = search needs
+
+-- src/spans.rt:97:9
+cut-requires-2 : tie.Need-cut-requires-2
+cut-requires-2 c κs = search needs
+
+-- src/spans.rt:98:9
+cut-requires-3 : tie.Need-cut-requires-3
+cut-requires-3 c κs = search needs
+
+-- src/spans.rt:99:52
+add-lesser : tie.Need-add-lesser
+add-lesser c = search needs
+
+-- src/spans.rt:99:35
+lesser-requires-2 : tie.Need-lesser-requires-2
+lesser-requires-2 c κs = search needs
+
+-- src/spans.rt:99:31
+add-cut : tie.Need-add-cut
+add-cut c = search needs
+
+-- src/spans.rt:99:9
+cut-requires-4 : tie.Need-cut-requires-4
+cut-requires-4 c κs = search needs
+
+-- src/spans.rt:100:25
+add-cut-2 : tie.Need-add-cut-2
+add-cut-2 c = search needs
+
+-- src/spans.rt:100:25
+add-cut-3 : tie.Need-add-cut-3
+add-cut-3 c = search needs
+
+-- src/spans.rt:100:9
+cut-requires-5 : tie.Need-cut-requires-5
+cut-requires-5 c κs = search needs
+
+-- src/spans.rt:101:9
+span-requires : tie.Need-span-requires
+span-requires c κs = search needs
+
+-- src/spans.rt:102:9
+span-requires-2 : tie.Need-span-requires-2
+span-requires-2 c κs = search needs
+
+-- src/spans.rt:103:9
+span-requires-3 : tie.Need-span-requires-3
+span-requires-3 c κs = search needs
+
+-- src/spans.rt:104:5
+span-requires-4 : tie.Need-span-requires-4
+span-requires-4 c κs = search needs
+
+-- src/spans.rt:90:1
+returns : tie.Need-returns
+returns c =
+    λ g eh em.
+    let c4 = c .before .before .before .before in
+    let c7 = c4 .before .before .before in
+    let c10 = c7 .before .before .before in
+    let c13 = c10 .before .before .before in
+    let m = c13 .before .between in
+    let h = c13 .reach in
+    let s = c13 .before .before in
+    four-spans _ _ _ _ _ _ _ _ _ _ _ _ _ _ _ _ _ _ _ _ (c .before .before .before .span .ensures) (c .before .before .span2 .ensures) (c .before .span3 .ensures) (c .span4 .ensures)
+    (c10 .before .cut .ensures .0 ∙ ap (cutAt (s .args .row)) (c10 .before .before .less .ensures .0))
+    (c7 .before .cut2 .ensures .0 ∙ ap (cutAt (s .args .row)) (c7 .before .before .less2 .ensures .0 ∙ ap (λ (z : ℕ). s .args .x - z) (c10 .lesser .ensures .0)))
+    (c7 .cut3 .ensures .0)
+    (c4 .before .cut4 .ensures .0 ∙ ap (λ (z : ℕ). cutAt (s .args .row) (s .args .x + z)) (c4 .before .before .lesser2 .ensures .0))
+    (c4 .cut5 .ensures .0)
+    ∙ north-marks g (s .args .x) (s .args .y) (s .args .row) (m .result) (h .result) (s .pre .0) (s .pre .1) (m .ensures) (h .ensures)
+    (s .args .heard .now) eh (s .pre .2) (s .args .marks) (s .pre .3) em
+
+pub north-row-spec : {M : Type 1} → statement M
+north-row-spec =
+    tie.close
+    (tie.spec
+    cast-between
+    mul-between
+    add-between
+    between-requires
+    reach-requires
+    less-requires
+    cut-requires
+    lesser-requires
+    less-requires-2
+    cut-requires-2
+    cut-requires-3
+    add-lesser
+    lesser-requires-2
+    add-cut
+    cut-requires-4
+    add-cut-2
+    add-cut-3
+    cut-requires-5
+    span-requires
+    span-requires-2
+    span-requires-3
+    span-requires-4
+    returns)
