@@ -3,10 +3,10 @@ use borrow.Author.Tests.{eq-eqb, ne-eqb}
 use mir.ValLaws.{toZ-ofZ}
 use mir.Syntax.{w32}
 use Rattle.sites.specs.declared.Altitude.the-variants.{Metres}
-use Rattle.siting.proofs.calls.altitude_by.Statement.{statement}
-use Rattle.siting.proofs.calls.altitude_by.Tie as tie
-use Rattle.siting.proofs.calls.altitude_by.Reads as reads
-use Rattle.siting.proofs.calls.altitude_by.Lts as lts
+use Rattle.replies.proofs.altitude_by.Statement.{statement}
+use Rattle.replies.proofs.altitude_by.Tie as tie
+use Rattle.replies.proofs.altitude_by.Reads as reads
+use Rattle.replies.proofs.altitude_by.Lts as lts
 
 returns : tie.Need-returns
 returns c = rw (eq-eqb _ _ (c .if1 .taken))

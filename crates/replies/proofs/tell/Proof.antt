@@ -1,14 +1,14 @@
-use Rattle.siting.proofs.Telling.{tells-refused, tells-generation, tells-freed}
+use Rattle.replies.proofs.Answers.{tells-refused, tells-generation, tells-freed}
 use borrow.Author.Needs.{needs}
-use Rattle.siting.proofs.calls.tell.Statement.{statement}
-use Rattle.siting.proofs.calls.tell.Tie as tie
-use Rattle.siting.proofs.calls.tell.Reads as reads
-use Rattle.siting.proofs.calls.tell.Lts as lts
-use Rattle.siting.proofs.calls.put.Reads as put-reads
-use Rattle.siting.proofs.calls.put_generation.Reads as put-generation-reads
-use Rattle.siting.proofs.calls.put_judgment.Reads as put-judgment-reads
-use Rattle.siting.proofs.calls.put_keyed.Reads as put-keyed-reads
-use Rattle.siting.proofs.calls.put_state.Reads as put-state-reads
+use Rattle.replies.proofs.tell.Statement.{statement}
+use Rattle.replies.proofs.tell.Tie as tie
+use Rattle.replies.proofs.tell.Reads as reads
+use Rattle.replies.proofs.tell.Lts as lts
+use Rattle.replies.proofs.put.Reads as put-reads
+use Rattle.replies.proofs.put_generation.Reads as put-generation-reads
+use Rattle.replies.proofs.put_judgment.Reads as put-judgment-reads
+use Rattle.replies.proofs.put_keyed.Reads as put-keyed-reads
+use Rattle.replies.proofs.put_state.Reads as put-state-reads
 
 enum-known-w : tie.Need-enum-known-w
 enum-known-w c = search needs

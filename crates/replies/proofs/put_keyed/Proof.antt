@@ -1,9 +1,9 @@
-use Rattle.siting.proofs.Telling.{keyed-so}
+use Rattle.replies.proofs.Answers.{keyed-so}
 use borrow.Author.Needs.{needs}
-use Rattle.siting.proofs.calls.put_keyed.Statement.{statement}
-use Rattle.siting.proofs.calls.put_keyed.Tie as tie
-use Rattle.siting.proofs.calls.put_keyed.Reads as reads
-use Rattle.siting.proofs.calls.put_keyed.Lts as lts
+use Rattle.replies.proofs.put_keyed.Statement.{statement}
+use Rattle.replies.proofs.put_keyed.Tie as tie
+use Rattle.replies.proofs.put_keyed.Reads as reads
+use Rattle.replies.proofs.put_keyed.Lts as lts
 use Rattle.flat.proofs.key_word.Reads as key-word-reads
 
 key-word-requires : tie.Need-key-word-requires

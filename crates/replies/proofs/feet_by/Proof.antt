@@ -3,10 +3,10 @@ use borrow.Author.Tests.{eq-eqb, ne-eqb}
 use mir.ValLaws.{toZ-ofZ}
 use mir.Syntax.{w32}
 use Rattle.cells.specs.declared.Height.the-variants.{Known}
-use Rattle.siting.proofs.calls.feet_by.Statement.{statement}
-use Rattle.siting.proofs.calls.feet_by.Tie as tie
-use Rattle.siting.proofs.calls.feet_by.Reads as reads
-use Rattle.siting.proofs.calls.feet_by.Lts as lts
+use Rattle.replies.proofs.feet_by.Statement.{statement}
+use Rattle.replies.proofs.feet_by.Tie as tie
+use Rattle.replies.proofs.feet_by.Reads as reads
+use Rattle.replies.proofs.feet_by.Lts as lts
 
 returns : tie.Need-returns
 returns c = rw (eq-eqb _ _ (c .if1 .taken))

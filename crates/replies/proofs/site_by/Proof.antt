@@ -1,8 +1,8 @@
 use borrow.Author.Tests.{eq-eqb, ne-eqb}
-use Rattle.siting.proofs.calls.site_by.Statement.{statement}
-use Rattle.siting.proofs.calls.site_by.Tie as tie
-use Rattle.siting.proofs.calls.site_by.Reads as reads
-use Rattle.siting.proofs.calls.site_by.Lts as lts
+use Rattle.replies.proofs.site_by.Statement.{statement}
+use Rattle.replies.proofs.site_by.Tie as tie
+use Rattle.replies.proofs.site_by.Reads as reads
+use Rattle.replies.proofs.site_by.Lts as lts
 
 returns : tie.Need-returns
 returns c = rw (eq-eqb _ _ (c .if1 .taken))

@@ -1,11 +1,11 @@
-use Rattle.siting.proofs.Telling.{wrong-words}
+use Rattle.replies.proofs.Answers.{wrong-words}
 use borrow.Author.Needs.{needs}
-use Rattle.siting.proofs.calls.put_judgment.Statement.{statement}
-use Rattle.siting.proofs.calls.put_judgment.Tie as tie
-use Rattle.siting.proofs.calls.put_judgment.Reads as reads
-use Rattle.siting.proofs.calls.put_judgment.Lts as lts
-use Rattle.siting.proofs.calls.evidence_word.Reads as evidence-word-reads
-use Rattle.siting.proofs.calls.put.Reads as put-reads
+use Rattle.replies.proofs.put_judgment.Statement.{statement}
+use Rattle.replies.proofs.put_judgment.Tie as tie
+use Rattle.replies.proofs.put_judgment.Reads as reads
+use Rattle.replies.proofs.put_judgment.Lts as lts
+use Rattle.replies.proofs.evidence_word.Reads as evidence-word-reads
+use Rattle.replies.proofs.put.Reads as put-reads
 
 enum-told : tie.Need-enum-told
 enum-told c = search needs
