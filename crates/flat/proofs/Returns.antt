@@ -13,7 +13,7 @@ use lib.Ieee.Bits.{ofBits-toBits}
 use mir.Syntax.{w32}
 use mir.Val.{ofZ, toZ}
 use mir.ValLaws.{toZ-ofZ, ofZ-fits}
-use Rattle.floats.specs.Degrees.{within}
+use Rattle.measures.specs.Degrees.{within}
 use Rattle.sites.specs.declared.Altitude.{Altitude}
 use Rattle.sites.specs.declared.Altitude.the-variants.{Metres, Unknown}
 use Rattle.sites.specs.declared.Claimed.{Claimed}

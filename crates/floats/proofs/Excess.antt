@@ -13,11 +13,11 @@ use lib.Ieee.Order.{round-mono}
 use Rattle.root.specs.Root.{root, rootUnits, isqrt, plain, plusZero}
 use Rattle.floats.specs.Horizon.{atLeastZero, horizon, allowance, fourTwelve, elevenTenths, twenty, pastOf}
 use Rattle.floats.specs.declared.horizon.Past.the-variants.{By, No}
-use Rattle.floats.specs.Steps.{distance}
-use Rattle.floats.specs.Rank.{Good}
+use Rattle.measures.specs.Steps.{distance}
+use Rattle.rank.specs.Rank.{Good}
 use Rattle.root.proofs.Signs.{true-not-false}
-use Rattle.floats.proofs.Tests.{at-most}
-use Rattle.floats.proofs.Quotient.{plus, units-plus, round-plus}
+use Rattle.measures.proofs.Tests.{at-most}
+use Rattle.measures.proofs.Quotient.{plus, units-plus, round-plus}
 
 -- ---- `plus` goes through the root, the sum and the product
 

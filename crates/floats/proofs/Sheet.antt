@@ -7,8 +7,8 @@ use lib.IntN.{pos, negsuc}
 use lib.Ieee.{Float, fin, binary64, units, round, add, mul, div, lt}
 use Rattle.root.specs.Root.{root, plusZero}
 use Rattle.floats.specs.Horizon.{horizon, fourTwelve, atLeastZero}
-use Rattle.floats.specs.Degrees.{tickOf}
-use Rattle.floats.specs.Steps.{offOf, halfAway}
+use Rattle.measures.specs.Degrees.{tickOf}
+use Rattle.measures.specs.Steps.{offOf, halfAway}
 use Rattle.root.proofs.Pattern.{root-is}
 use Rattle.root.proofs.Value.{root-value}
 

@@ -1,5 +1,2 @@
--- What the crate computes in f64, from document 01. Each file has its sentences in 01's order.
+-- What the crate computes in f64, from document 01, its sentences in 01's order.
 pub mod Horizon
-pub mod Degrees
-pub mod Steps
-pub mod Rank

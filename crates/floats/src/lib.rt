@@ -1,5 +1,2 @@
-// What the siting watch does in f64: the radio horizon, degrees to ticks, and a distance in steps of 5 km.
-pub mod degrees;
+// What the siting watch does in f64: the radio horizon, its allowance, and how far past it an edge is.
 pub mod horizon;
-pub mod rank;
-pub mod steps;

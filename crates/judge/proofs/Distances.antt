@@ -7,10 +7,10 @@ use Prim.Native.Nat.{ℕ, _*_, _≤_}
 use native.Mathlib.Omega.{arith}
 use lib.Dec.{T, ltb, leb, eqb}
 use lib.Ieee.{Float}
-use Rattle.floats.specs.Steps.{distance}
+use Rattle.measures.specs.Steps.{distance}
 use Rattle.floats.specs.declared.horizon.Past.{Past}
 use Rattle.floats.specs.declared.horizon.Past.the-variants.{By, No}
-use Rattle.floats.proofs.Quotient.{off-step as excess-step}
+use Rattle.measures.proofs.Quotient.{off-step as excess-step}
 use Rattle.view.specs.View.{kept, gridOf, farOf}
 use Rattle.view.specs.declared.EpochId.{EpochId}
 use Rattle.view.specs.declared.Far.{Far}

@@ -6,7 +6,7 @@ use Prim.Native.Nat.{ℕ, _≤_, _<_}
 use borrow.Author.Tests.{lt-ltb, le-ltb}
 use lib.Dec.{ltb}
 use lib.Ieee.{Float}
-use Rattle.floats.specs.Steps.{offOf}
+use Rattle.measures.specs.Steps.{offOf}
 use Rattle.floats.specs.declared.horizon.Past.{Past}
 use Rattle.floats.specs.declared.horizon.Past.the-variants.{By, No}
 use Rattle.view.specs.View.{kept, Unheard}

@@ -5,7 +5,7 @@ use mathlib.Core.Bool.{Bool, cond}
 use mathlib.Core.List.{List}
 use lib.Dec.{ltb}
 use lib.Ieee.{Float}
-use Rattle.floats.specs.Steps.{offOf}
+use Rattle.measures.specs.Steps.{offOf}
 use Rattle.floats.specs.declared.horizon.Past.{Past}
 use Rattle.floats.specs.declared.horizon.Past.the-variants.{By, No}
 use Rattle.view.specs.View.{kept, gridOf, farOf}

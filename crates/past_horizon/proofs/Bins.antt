@@ -11,7 +11,7 @@ use lib.Dec.{leb}
 use lib.Ieee.{Float, nan}
 use lib.ListN.{length, getD, take, drop, set, length-set, length-drop, drop-of-length-le}
 use lib.Seq.{take-all, drop-cons, drop-set-lt, getD-set-same}
-use Rattle.floats.specs.Rank.{sorted}
+use Rattle.rank.specs.Rank.{sorted}
 use Rattle.floats.specs.declared.horizon.Past.{Past}
 use Rattle.floats.specs.declared.horizon.Past.the-variants.{By, No}
 use Rattle.floats.specs.Horizon.{pastOf}

@@ -12,14 +12,14 @@ use lib.Ieee.{Float, nan, inf, fin, binary64, fits, lt, sub, ofInt, round}
 use lib.Ieee.Fits.{sub-fits}
 use lib.ListN.{length, getD}
 use Rattle.floats.specs.Horizon.{allowance, pastOf}
-use Rattle.floats.specs.Rank.{insert, sorted, AllGood, Ascending}
+use Rattle.rank.specs.Rank.{insert, sorted, AllGood, Ascending}
 use Rattle.root.specs.Root.{plain}
-use Rattle.floats.specs.Steps.{distance}
+use Rattle.measures.specs.Steps.{distance}
 use Rattle.floats.specs.declared.horizon.Past.{Past}
 use Rattle.floats.specs.declared.horizon.Past.the-variants.{By, No}
 use Rattle.floats.proofs.Excess.{by-is, in-range}
-use Rattle.floats.proofs.Order.{sorted-ascending}
-use Rattle.floats.proofs.Counted.{sorted-length}
+use Rattle.rank.proofs.Order.{sorted-ascending}
+use Rattle.rank.proofs.Counted.{sorted-length}
 use Rattle.cells.specs.Cells.{lowOf, occupiedWord, ceiling}
 use Rattle.cells.specs.Passes.{pass}
 use Rattle.cells.specs.declared.Ceiling.{Ceiling}

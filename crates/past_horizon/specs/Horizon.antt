@@ -10,7 +10,7 @@ use lib.Ieee.{Float, nan, binary64, ofInt}
 use lib.ListN.{length, getD}
 use Rattle.angles.specs.Sphere.{edges}
 use Rattle.floats.specs.Horizon.{pastOf}
-use Rattle.floats.specs.Rank.{sorted}
+use Rattle.rank.specs.Rank.{sorted}
 use Rattle.floats.specs.declared.horizon.Past.{Past}
 use Rattle.floats.specs.declared.horizon.Past.the-variants.{By, No}
 use Rattle.cells.specs.Cells.{countOf, lowOf, bitsOf, occupiedWord, ceiling}

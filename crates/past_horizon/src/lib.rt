@@ -8,7 +8,6 @@ use cells::Ceiling;
 use cells::Cell;
 use floats::horizon;
 use floats::horizon::Past;
-use floats::rank;
 use sites::Site;
 use view::Far;
 

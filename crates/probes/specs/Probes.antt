@@ -3,7 +3,7 @@ use Prim.Native.Nat.{ℕ}
 use mathlib.Core.Bool.{_&&_, cond}
 use lib.Ieee.{Float}
 use Rattle.angles.specs.Place.{samePlace}
-use Rattle.floats.specs.Degrees.{inDegrees, tickOf}
+use Rattle.measures.specs.Degrees.{inDegrees, tickOf}
 
 -- 1 for yes, 0 for no; 4 for a "no" to question 4 on any of the four degrees
 unfoldable pub sameAnswer : Float → Float → Float → Float → ℕ

@@ -2,7 +2,7 @@
 ghost use mathlib.Core.Path.{_≡_};
 ghost use Rattle.sites.specs.declared.Altitude.the-variants as altitudes;
 ghost use Rattle.probes.specs.Probes.{sameAnswer};
-use floats::degrees;
+use measures::degrees;
 use sites::Altitude;
 use sites::Site;
 

@@ -10,7 +10,7 @@ use lib.IntN.{pos}
 use Rattle.table.specs.Machine.{Key, Call, Answer, refused, said, Event, history}
 use Rattle.table.specs.Watch.{rowedMachine}
 use Rattle.table.proofs.Order.{tableStep}
-use Rattle.floats.specs.Degrees.{within}
+use Rattle.measures.specs.Degrees.{within}
 use Rattle.sites.specs.declared.Altitude.the-variants as Altitudes
 use Rattle.sites.specs.declared.Claimed.the-variants.{At}
 use Rattle.cells.specs.declared.Height.the-variants.{Unknown}

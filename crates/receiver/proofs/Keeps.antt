@@ -13,7 +13,7 @@ use Rattle.table.specs.Watch.{Body}
 use Rattle.table.proofs.Tests.{byBool, and-1, and-2, and-both, eqb-yes, leb-yes}
 use Rattle.table.proofs.Rep.{Fine}
 use Rattle.table.proofs.Refine.{Lawful}
-use Rattle.floats.specs.Degrees.{inDegrees}
+use Rattle.measures.specs.Degrees.{inDegrees}
 use Rattle.sites.specs.Sites.{held, samePlace, placed}
 use Rattle.sites.specs.declared.Site.{Site}
 use Rattle.sites.specs.declared.Claimed.{Claimed}

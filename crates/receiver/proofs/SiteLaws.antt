@@ -10,7 +10,7 @@ use lib.Seq.{sets, length-sets}
 use Rattle.table.specs.Machine.{refuse}
 use Rattle.table.proofs.Tests.{T-true, true-T}
 use Rattle.cells.specs.Cells.{emptyWord, addedWord, bucketOf, aircraftBit}
-use Rattle.floats.specs.Degrees.{inDegrees}
+use Rattle.measures.specs.Degrees.{inDegrees}
 use Rattle.sites.specs.Sites.{held, samePlace, placed}
 use Rattle.sites.specs.declared.Altitude.{Altitude}
 use Rattle.sites.specs.declared.Site.{Site}

@@ -7,7 +7,7 @@ use lib.ListN.{getD, set, replicate}
 use lib.Seq.{sets}
 use Rattle.table.specs.Machine.{Outcome, refuse, accept}
 use Rattle.table.specs.Watch.{Body}
-use Rattle.floats.specs.Degrees.{inDegrees}
+use Rattle.measures.specs.Degrees.{inDegrees}
 use Rattle.sites.specs.Sites.{held, samePlace, placed}
 use Rattle.sites.specs.declared.Altitude.{Altitude}
 use Rattle.sites.specs.declared.Altitude.the-variants.{Metres, Unknown}

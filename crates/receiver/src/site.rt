@@ -7,7 +7,7 @@ ghost use lib.Dec.{T};
 ghost use lib.ListN.{length, replicate};
 ghost use lib.Seq.{sets};
 ghost use Rattle.cells.specs.Cells.{emptyWord};
-ghost use Rattle.floats.specs.Degrees.{inDegrees};
+ghost use Rattle.measures.specs.Degrees.{inDegrees};
 ghost use Rattle.sites.specs.Sites.{held};
 ghost use Rattle.receiver.specs.Heard as heard;
 ghost use Rattle.receiver.specs.Answers.{claimingIs, halfBefore, countingIs, hearingIs, CountingFits, HearingFits};
@@ -213,7 +213,7 @@ pub fn heard(h: Heard, p: Position) -> Hearing
     requires { ⌜ heard.siteFits (h .site) ≡ true ⌝ }
     ensures { λ r. ⌜ ((l : List ℕ) → hearingIs r l ≡ heard.positioned h l p) × HearingFits r ⌝ }
 {
-    if floats::degrees::in_degrees(p.lat, p.lon) {
+    if measures::degrees::in_degrees(p.lat, p.lon) {
         let site = h.site;
         return match site {
             Claimed::At(s) => heard_at(h, s, p),

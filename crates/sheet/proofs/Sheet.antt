@@ -14,7 +14,7 @@ use Rattle.angles.specs.Plane.{near, column}
 use Rattle.angles.specs.Bearing.{sector}
 use Rattle.root.specs.Root.{plusZero}
 use Rattle.floats.specs.Horizon.{horizon, fourTwelve}
-use Rattle.floats.specs.Steps.{offOf}
+use Rattle.measures.specs.Steps.{offOf}
 use Rattle.floats.proofs.Sheet as floats
 use Rattle.cells.specs.Cells.{bucketOf, bitNumber}
 use Rattle.cells.specs.declared.Height.the-variants.{Known, Unknown}

@@ -11,8 +11,8 @@ use lib.Ieee.Fits.{and-l, and-r}
 use mir.Syntax.{w64}
 use mir.Val.{SFits, toZ, ofZ}
 use mir.ValLaws.{toZ-ofZ}
-use Rattle.floats.specs.Degrees.{within, inDegrees, tickOf}
-use Rattle.floats.proofs.Ticks.{within-mono, tick-bound}
+use Rattle.measures.specs.Degrees.{within, inDegrees, tickOf}
+use Rattle.measures.proofs.Ticks.{within-mono, tick-bound}
 
 -- a latitude within 90 degrees, and a longitude within 180, are ones that `tick` takes
 pub lat-in : (lat lon : Float) → T (inDegrees lat lon) → T (within 90 lat)

@@ -4,7 +4,7 @@ use mathlib.Core.Bool.{Bool, _&&_, cond}
 use lib.IntN.{ℤ, pos}
 use lib.Ieee.{Float}
 use Rattle.angles.specs.Place as ticks
-use Rattle.floats.specs.Degrees.{inDegrees, tickOf}
+use Rattle.measures.specs.Degrees.{inDegrees, tickOf}
 use Rattle.floats.specs.Horizon.{antennaOf}
 use Rattle.sites.specs.declared.Altitude.{Altitude}
 use Rattle.sites.specs.declared.Altitude.the-variants.{Metres, Unknown}

@@ -2,10 +2,10 @@
 ghost use mathlib.Core.Path.{_≡_};
 ghost use Prim.Native.Nat.{_<_};
 ghost use lib.Dec.{T};
-ghost use Rattle.floats.specs.Degrees.{inDegrees};
+ghost use Rattle.measures.specs.Degrees.{inDegrees};
 ghost use Rattle.sites.specs.Sites.{held, samePlace, antenna, placed, placing};
 use angles::site;
-use floats::degrees;
+use measures::degrees;
 use floats::horizon;
 
 // An altitude in metres, or none.

@@ -8,7 +8,7 @@ use lib.Ieee.{Float}
 use Rattle.sites.specs.Sites.{antenna}
 use Rattle.cells.proofs.Words.{count-small}
 use Rattle.floats.specs.Horizon.{atLeastZero}
-use Rattle.floats.specs.Rank.{AllGood}
+use Rattle.rank.specs.Rank.{AllGood}
 use Rattle.root.specs.Root.{root}
 use Rattle.past_horizon.specs.Horizon.{pastHorizon}
 use Rattle.past_horizon.proofs.Bins.{Sizes, Seen, none, one-past, not-past, All, all, too-few, too-few-aircraft, too-few-positions, enough}

@@ -6,7 +6,7 @@ use mathlib.Core.Bool.{Bool, true, false, cond}
 use lib.Dec.{T}
 use lib.Ieee.{Float}
 use Rattle.angles.specs.Place as ticks
-use Rattle.floats.specs.Degrees.{inDegrees, tickOf}
+use Rattle.measures.specs.Degrees.{inDegrees, tickOf}
 use Rattle.sites.specs.Sites.{samePlace}
 use Rattle.probes.specs.Probes.{sameAnswer}
 use Rattle.probes.proofs.probe_same_place.Statement.{statement}

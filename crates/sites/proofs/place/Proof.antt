@@ -4,7 +4,7 @@ use borrow.Author.Needs.{needs}
 use mathlib.Core.Path.{_≡_, sym, _∙_}
 use mathlib.Core.Bool.{true, false}
 use lib.Ieee.{Float}
-use Rattle.floats.specs.Degrees.{inDegrees}
+use Rattle.measures.specs.Degrees.{inDegrees}
 use Rattle.sites.specs.Sites.{placed, placing}
 use Rattle.sites.proofs.Ranges.{tested}
 use Rattle.sites.proofs.place.Statement.{statement}

@@ -15,7 +15,7 @@ from-roots-requires c κs = search needs
 
 returns : tie.Need-returns
 unfolding allowance horizon
-returns c = λ a h. rw (sym h) (cc (eleven-tenths, twenty-is))
+returns c = λ a h. rw (sym h, c .from-roots .ensures, c .before .root-of .ensures, eleven-tenths, twenty-is)
 
 pub allowance-km-spec : {M : Type 1} → statement M
 allowance-km-spec = tie.close (tie.spec root-of-requires from-roots-requires returns)

@@ -16,7 +16,7 @@ int-to-float-result c = search needs
 
 returns : tie.Need-returns
 unfolding ceilingOf
-returns c = cc foot-is
+returns c = rw foot-is
 
 pub ceiling-m-spec : {M : Type 1} → statement M
 ceiling-m-spec = tie.close (tie.spec add-feet mul-feet int-to-float-result returns)

@@ -15,7 +15,7 @@ from-roots-requires c κs = search needs
 
 returns : tie.Need-returns
 unfolding horizon
-returns c = cc
+returns c = rw (c .from-roots .ensures, c .before .root-of2 .ensures, c .before .before .root-of .ensures)
 
 pub horizon-km-spec : {M : Type 1} → statement M
 horizon-km-spec = tie.close (tie.spec root-of-requires root-of-requires-2 from-roots-requires returns)

@@ -5,8 +5,8 @@ use Rattle.siting.proofs.calls.siting_check.Tie as tie
 use Rattle.siting.proofs.calls.siting_check.Reads as reads
 use Rattle.siting.proofs.calls.siting_check.Lts as lts
 use Rattle.lent.proofs.check.Reads as check-reads
-use Rattle.siting.proofs.calls.key_by.Reads as key-by-reads
-use Rattle.siting.proofs.calls.tell.Reads as tell-reads
+use Rattle.replies.proofs.key_by.Reads as key-by-reads
+use Rattle.replies.proofs.tell.Reads as tell-reads
 
 key-by-requires : tie.Need-key-by-requires
 key-by-requires c κs = search needs

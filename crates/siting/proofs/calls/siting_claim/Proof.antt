@@ -5,10 +5,10 @@ use Rattle.siting.proofs.calls.siting_claim.Tie as tie
 use Rattle.siting.proofs.calls.siting_claim.Reads as reads
 use Rattle.siting.proofs.calls.siting_claim.Lts as lts
 use Rattle.lent.proofs.claim.Reads as claim-reads
-use Rattle.siting.proofs.calls.altitude_by.Reads as altitude-by-reads
-use Rattle.siting.proofs.calls.key_by.Reads as key-by-reads
-use Rattle.siting.proofs.calls.site_by.Reads as site-by-reads
-use Rattle.siting.proofs.calls.tell.Reads as tell-reads
+use Rattle.replies.proofs.altitude_by.Reads as altitude-by-reads
+use Rattle.replies.proofs.key_by.Reads as key-by-reads
+use Rattle.replies.proofs.site_by.Reads as site-by-reads
+use Rattle.replies.proofs.tell.Reads as tell-reads
 
 key-by-requires : tie.Need-key-by-requires
 key-by-requires c κs = search needs

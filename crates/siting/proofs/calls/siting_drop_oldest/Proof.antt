@@ -5,7 +5,7 @@ use Rattle.siting.proofs.calls.siting_drop_oldest.Tie as tie
 use Rattle.siting.proofs.calls.siting_drop_oldest.Reads as reads
 use Rattle.siting.proofs.calls.siting_drop_oldest.Lts as lts
 use Rattle.lent.proofs.drop_oldest.Reads as drop-oldest-reads
-use Rattle.siting.proofs.calls.tell.Reads as tell-reads
+use Rattle.replies.proofs.tell.Reads as tell-reads
 
 drop-oldest-requires : tie.Need-drop-oldest-requires
 drop-oldest-requires c κs = search needs

@@ -5,7 +5,7 @@ use Rattle.siting.proofs.calls.siting_fresh.Tie as tie
 use Rattle.siting.proofs.calls.siting_fresh.Reads as reads
 use Rattle.siting.proofs.calls.siting_fresh.Lts as lts
 use Rattle.lent.proofs.fresh.Reads as fresh-reads
-use Rattle.siting.proofs.calls.tell.Reads as tell-reads
+use Rattle.replies.proofs.tell.Reads as tell-reads
 
 fresh-requires : tie.Need-fresh-requires
 fresh-requires c κs = search needs

@@ -5,9 +5,9 @@ use Rattle.siting.proofs.calls.siting_position.Tie as tie
 use Rattle.siting.proofs.calls.siting_position.Reads as reads
 use Rattle.siting.proofs.calls.siting_position.Lts as lts
 use Rattle.lent.proofs.position.Reads as position-reads
-use Rattle.siting.proofs.calls.feet_by.Reads as feet-by-reads
-use Rattle.siting.proofs.calls.key_by.Reads as key-by-reads
-use Rattle.siting.proofs.calls.tell.Reads as tell-reads
+use Rattle.replies.proofs.feet_by.Reads as feet-by-reads
+use Rattle.replies.proofs.key_by.Reads as key-by-reads
+use Rattle.replies.proofs.tell.Reads as tell-reads
 
 key-by-requires : tie.Need-key-by-requires
 key-by-requires c κs = search needs

@@ -5,8 +5,8 @@ use Rattle.siting.proofs.calls.siting_take_out.Tie as tie
 use Rattle.siting.proofs.calls.siting_take_out.Reads as reads
 use Rattle.siting.proofs.calls.siting_take_out.Lts as lts
 use Rattle.lent.proofs.take_out.Reads as take-out-reads
-use Rattle.siting.proofs.calls.key_by.Reads as key-by-reads
-use Rattle.siting.proofs.calls.tell.Reads as tell-reads
+use Rattle.replies.proofs.key_by.Reads as key-by-reads
+use Rattle.replies.proofs.tell.Reads as tell-reads
 
 key-by-requires : tie.Need-key-by-requires
 key-by-requires c κs = search needs

@@ -1,0 +1,5 @@
+-- Lemmas that the proofs share: floats brought to whole numbers.
+pub mod Scaled
+pub mod Tests
+pub mod Ticks
+pub mod Quotient

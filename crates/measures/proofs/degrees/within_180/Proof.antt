@@ -1,0 +1,18 @@
+-- `degrees::within_180` meets its contract: 180 is 45 * 2 ^ 2. Assumes nothing.
+use mathlib.Core.Bool.{true, false}
+use lib.Dec.{lit<}
+use lib.Ieee.{neg, ofBits}
+use Rattle.measures.proofs.Tests.{range-by}
+use Rattle.measures.proofs.degrees.within_180.Statement.{statement}
+use Rattle.measures.proofs.degrees.within_180.Tie as tie
+
+returns : tie.Need-returns
+unfolding ofBits neg
+returns c = range-by 45 2 (c .before .args .x) true (lit< tt) (c .if1 .taken)
+
+returns-2 : tie.Need-returns-2
+unfolding ofBits neg
+returns-2 c = range-by 45 2 (c .before .args .x) false (lit< tt) (c .if1 .left)
+
+pub within-180-spec : {M : Type 1} → statement M
+within-180-spec = tie.close (tie.spec returns returns-2)

@@ -1,0 +1,3 @@
+-- Lemmas that the proofs share: the order of floats.
+pub mod Order
+pub mod Counted
