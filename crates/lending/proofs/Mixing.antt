@@ -7,6 +7,7 @@ use native.Mathlib.Omega.{arith}
 use native.Mathlib.Nat.{div-add-mod', add-mod-mod, add-mul-mod-self-right}
 use lib.Bits.{bitXor}
 use lib.Dec.{eqb}
+use lib.ListN.{getD}
 use lib.Ieee.{binary64, toBits}
 use lib.IntN.{ℤ}
 use mir.Syntax.{w32}
@@ -24,9 +25,9 @@ use Rattle.receiver.specs.declared.Verdict.{Verdict}
 use Rattle.receiver.specs.declared.Judged.{Judged}
 use Rattle.receiver.specs.declared.Judged.the-variants.{With, Never}
 use Rattle.rows.specs.declared.Row.{Row}
-use Rattle.rows.specs.Read.{rowIs}
+use Rattle.rows.specs.Read.{rowIs, endsIs}
 use Rattle.flat.specs.Words.{wordOf, eight, keyWords, altitudeWords, siteWords, idWords, heardWords, lastWord}
-use Rattle.lending.specs.Digests.{times, mixed, mixedAll, linkWord, distanceOf, verdictSix, rowWords}
+use Rattle.lending.specs.Digests.{times, mixed, mixedAll, linkWord, distanceOf, verdictSix, rowWords, endsWords}
 
 -- 1099511628211 is 2^40 + 435: the low 24 bits shifted, and both halves times 435; what that leaves out is a multiple of 2^64
 module _ (h : ℕ) where
@@ -132,3 +133,6 @@ row-mixed x h a b c p n r ea eb ec ep en er =
     (then h a r (keyWords (x .key)) (heardWords (x .part .heard) ++ (verdictSix (x .part .verdict) ++ (p ∷ n ∷ []))) ea
     (then a b r (heardWords (x .part .heard)) (verdictSix (x .part .verdict) ++ (p ∷ n ∷ [])) eb
     (then b c r (verdictSix (x .part .verdict)) (p ∷ n ∷ []) ec er)))
+
+pub ends-mixed : (ws : List ℕ) (h a b c r : ℕ) → a ≡ linkWord (getD ws 0 0) → b ≡ linkWord (getD ws 1 0) → c ≡ linkWord (getD ws 2 0) → r ≡ mixedAll h (a ∷ b ∷ c ∷ []) → r ≡ mixedAll h (endsWords (endsIs ws))
+ends-mixed ws h a b c r ea eb ec e = rw (← ea, ← eb, ← ec) e

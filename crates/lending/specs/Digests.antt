@@ -46,9 +46,13 @@ unfoldable pub rowsWords : List (T.Row Part) → List ℕ
 rowsWords [] = []
 rowsWords (r ∷ rs) = rowWords r ++ rowsWords rs
 
--- C; first, last, free; each row; then all cells
+-- first, last, free
+abbrev pub endsWords : T.Ends → List ℕ
+endsWords e = linkWord (e .head) ∷ linkWord (e .tail) ∷ linkWord (e .free) ∷ []
+
+-- Words: C; the ends; each row; then all cells of the watch
 abbrev pub watchWords : Watch Part → List ℕ
-watchWords w = length (w .rows) ∷ linkWord (w .ends .head) ∷ linkWord (w .ends .tail) ∷ linkWord (w .ends .free) ∷ (rowsWords (w .rows) ++ w .cells)
+watchWords w = length (w .rows) ∷ (endsWords (w .ends) ++ (rowsWords (w .rows) ++ w .cells))
 
 -- h = 14695981039346656037
 unfoldable pub firstHash : ℕ

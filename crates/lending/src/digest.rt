@@ -1,4 +1,5 @@
 // The digest of a watch, word by word.
+use crate::Size;
 use receiver::Heard;
 use receiver::Judged;
 use receiver::Last;
@@ -10,17 +11,17 @@ use sites::Claimed;
 use view::EpochId;
 ghost use mathlib.Core.Path.{_≡_};
 ghost use mathlib.Core.Bool.{cond};
-ghost use mathlib.Core.List.{[], _∷_};
-ghost use Prim.Native.Nat.{_≤_};
+ghost use mathlib.Core.List.{[], _∷_, map};
 ghost use lib.ListN.{length, getD};
 ghost use lib.Ieee.{binary64, toBits};
 ghost use mir.Syntax.{w32};
 ghost use mir.Val.{ofZ};
-ghost use Rattle.rows.specs.Read.{rowIs};
+ghost use Rattle.rows.specs.Read.{rowIs, endsIs, watchIs};
 ghost use Rattle.flat.specs.Words.{keyWords, altitudeWords, siteWords, idWords, heardWords, lastWord};
 ghost use Rattle.flat.specs.Table.{rowsOf};
 ghost use Rattle.lending.specs.Digests as digests;
-ghost use Rattle.lending.specs.Digests.{mixed, mixedAll, linkWord, distanceOf, verdictSix, rowWords};
+ghost use Rattle.lending.specs.Digests.{mixed, mixedAll, linkWord, distanceOf, verdictSix, rowWords, rowsWords, endsWords, firstHash, digestOf};
+ghost use Rattle.lending.specs.Lendings.{Within, lentTo};
 
 // h × 1,099,511,628,211 mod 2^64; the factor is 2^40 + 435.
 fn times(h: u64) -> u64
@@ -191,4 +192,69 @@ fn mix_row(h: u64, row: Row) -> u64
     let a = mix_heard(mix_key(h, key), heard);
     let b = mix_verdict(a, verdict);
     mix_two(b, link_word(row.prev), link_word(row.next))
+}
+
+// ---- the watch
+
+fn mix_rows(h: u64, rows: &[u64], n: u32) -> u64
+    requires { ⌜ n ≡ length (rowsOf (now rows)) ⌝ }
+    ensures { λ r. ⌜ r ≡ mixedAll h (rowsWords (map rowIs (rowsOf (now (rows .entry))))) ⌝ }
+{
+    let mut g = h;
+    let mut i: u32 = 0;
+    while i < n {
+        let row = flat::get(rows, i);
+        g = mix_row(g, row);
+        i += 1;
+    }
+    g
+}
+
+fn mix_cells(h: u64, cells: &[u32]) -> u64
+    ensures { λ r. ⌜ r ≡ mixedAll h (now (cells .entry)) ⌝ }
+{
+    let mut g = h;
+    let mut i = 0;
+    while i < cells.len() {
+        g = mix(g, wide(cells[i]));
+        i += 1;
+    }
+    g
+}
+
+fn mix_ends(h: u64, ends: &[u32; 3]) -> u64
+    ensures { λ r. ⌜ r ≡ mixedAll h (endsWords (endsIs (now (ends .entry)))) ⌝ }
+{
+    let a = link_word(ends[0]);
+    let b = link_word(ends[1]);
+    let c = link_word(ends[2]);
+    mix_three(h, a, b, c)
+}
+
+fn first_hash() -> u64
+    ensures { λ r. ⌜ r ≡ firstHash ⌝ }
+{
+    14695981039346656037
+}
+
+// Of n rows, with their cells and ends.
+fn of_all(n: u32, rows: &[u64], cells: &[u32], ends: &[u32; 3]) -> u64
+    requires { ⌜ n ≡ length (rowsOf (now rows)) ⌝ }
+    ensures { λ r. ⌜ r ≡ digestOf (watchIs (rowsOf (now (rows .entry))) (now (cells .entry)) (now (ends .entry))) ⌝ }
+{
+    let a = mix(first_hash(), wide(n));
+    let b = mix_ends(a, ends);
+    let c = mix_rows(b, rows, n);
+    mix_cells(c, cells)
+}
+
+// Of the watch, which is the first rows and cells of those that are lent.
+pub fn whole(z: Size, rows: &[u64], cells: &[u32], ends: &[u32; 3]) -> u64
+    requires { ⌜ Within z (now rows) (now cells) ⌝ }
+    ensures { λ r. ⌜ r ≡ digestOf (lentTo z (now (rows .entry)) (now (cells .entry)) (now (ends .entry))) ⌝ }
+{
+    let n = z.rows;
+    let a = 23 * (n as usize);
+    let m = z.cells as usize;
+    of_all(n, &rows[..a], &cells[..m], ends)
 }
