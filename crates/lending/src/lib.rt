@@ -115,7 +115,14 @@ fn may_lend(c: u32, n: u32) -> Outcome
 }
 
 // C rows as unmade, N empty cells, no ends.
-pub fn lend(z: Size, rows: &mut [u64], cells: &mut [u32], ends: &mut [u32; 3], c: u32, n: u32) -> Changed
+pub fn lend(
+    z: Size,
+    rows: &mut [u64],
+    cells: &mut [u32],
+    ends: &mut [u32; 3],
+    c: u32,
+    n: u32,
+) -> Changed
     requires { ⌜ Room (now rows) (now cells) ⌝ }
     ensures { λ r. ⌜ Lent c n z (now (rows .entry)) (now (cells .entry)) (now (ends .entry)) (now (rows .exit)) (now (cells .exit)) (now (ends .exit)) r ⌝ }
 {

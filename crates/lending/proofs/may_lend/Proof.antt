@@ -1,19 +1,15 @@
-use Rattle.lending.proofs.Writing.{too-many-rows, too-many-cells, may-lend}
+-- `lending::may_lend` meets its contract: the tests are those of `lendable`.
 use borrow.Author.Needs.{needs}
+use Rattle.lending.proofs.Writing.{too-many-rows, too-many-cells, may-lend}
 use Rattle.lending.proofs.may_lend.Statement.{statement}
 use Rattle.lending.proofs.may_lend.Tie as tie
-use Rattle.lending.proofs.may_lend.Reads as reads
-use Rattle.lending.proofs.may_lend.Lts as lts
 
--- src/lib.rt:109:9
 returns : tie.Need-returns
 returns c = search (too-many-rows, needs)
 
--- src/lib.rt:112:9
 returns-2 : tie.Need-returns-2
 returns-2 c = search (too-many-cells, needs)
 
--- src/lib.rt:105:1
 returns-3 : tie.Need-returns-3
 returns-3 c = search (may-lend, needs)
 

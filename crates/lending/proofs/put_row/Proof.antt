@@ -1,33 +1,25 @@
+-- `lending::put_row` meets its contract: the row is stored among the first ones, and what lies behind them stays.
 use lib.Seq.{length-take-le}
-use Rattle.lending.proofs.Writing.{row-becomes}
 use borrow.Author.Needs.{needs}
+use Rattle.lending.proofs.Writing.{row-becomes}
 use Rattle.lending.proofs.put_row.Statement.{statement}
 use Rattle.lending.proofs.put_row.Tie as tie
-use Rattle.lending.proofs.put_row.Reads as reads
-use Rattle.lending.proofs.put_row.Lts as lts
-use Rattle.flat.proofs.put.Reads as put-reads
 
--- src/lib.rt:152:13
 mul-a : tie.Need-mul-a
 mul-a c = search needs
 
--- src/lib.rt:153:15
 slice-relend-prefix-put : tie.Need-slice-relend-prefix-put
 slice-relend-prefix-put c = search needs
 
--- src/lib.rt:153:15
 slice-aggregate-put : tie.Need-slice-aggregate-put
 slice-aggregate-put c = search (length-take-le, needs)
 
--- src/lib.rt:153:5
 put-requires : tie.Need-put-requires
 put-requires c κs = search needs
 
--- src/lib.rt:148:1
 same-length : tie.Need-same-length
 same-length c = search needs
 
--- src/lib.rt:148:1
 returns : tie.Need-returns
 returns c = search (row-becomes, needs)
 

@@ -1,15 +1,12 @@
+-- `lending::unmake` meets its contract. The invariant: the first i rows are unmade, and the words are as many as before. The measure is the number of rows left.
 use mathlib.Core.Path.{_≡_}
 use Prim.Native.Nat.{_≤_, _-_}
 use lib.ListN.{length}
+use borrow.Author.Needs.{needs}
 use Rattle.flat.specs.Table.{rowsOf}
 use Rattle.lending.proofs.Writing.{Unmade, unmade-begin, unmade-go, unmade-end}
-use borrow.Author.Needs.{needs}
 use Rattle.lending.proofs.unmake.Statement.{statement}
 use Rattle.lending.proofs.unmake.Tie as tie
-use Rattle.lending.proofs.unmake.Reads as reads
-use Rattle.lending.proofs.unmake.Lts as lts
-use Rattle.flat.proofs.put.Reads as put-reads
-use Rattle.rows.proofs.unmade.Reads as unmade-reads
 
 abbrev Inv-loop : tie.InvT-loop
 Inv-loop rows₀ n i₀ rows i = (i ≤ n) × Unmade i (rowsOf rows₀) (rowsOf rows) × (length rows ≡ length rows₀)
@@ -17,35 +14,27 @@ Inv-loop rows₀ n i₀ rows i = (i ≤ n) × Unmade i (rowsOf rows₀) (rowsOf 
 abbrev μ-loop : tie.MeasureT-loop
 μ-loop rows₀ n i₀ rows i = n - i
 
--- src/lib.rt:71:5
 loop-holds : tie.Need-loop-holds Inv-loop μ-loop
 loop-holds c = (search needs, search (unmade-begin, needs), search needs)
 
--- src/lib.rt:72:28
 unmade-requires : tie.Need-unmade-requires Inv-loop μ-loop
 unmade-requires c κs = search needs
 
--- src/lib.rt:72:9
 put-requires : tie.Need-put-requires Inv-loop μ-loop
 put-requires c κs = search needs
 
--- src/lib.rt:73:9
 add-i : tie.Need-add-i Inv-loop μ-loop
 add-i c = search needs
 
--- src/lib.rt:71:5
 loop-less : tie.Need-loop-less Inv-loop μ-loop
 loop-less c = search needs
 
--- src/lib.rt:71:5
 loop-again : tie.Need-loop-again Inv-loop μ-loop
 loop-again c = (search needs, search (unmade-go, needs), search needs)
 
--- src/lib.rt:66:1
 same-length : tie.Need-same-length Inv-loop μ-loop
 same-length c = search needs
 
--- src/lib.rt:66:1
 returns : tie.Need-returns Inv-loop μ-loop
 returns c = search (unmade-end, needs)
 

@@ -1,13 +1,10 @@
+-- `lending::digest::mix_cells` meets its contract. The invariant: what is left of the cells comes to the same as all of them at first. The measure is the number of cells left.
 use Prim.Native.Nat.{_≤_, _-_}
 use lib.ListN.{length}
-use Rattle.lending.proofs.Walking.{CellsLeft, cells-begin, cells-go, cells-end}
 use borrow.Author.Needs.{needs}
+use Rattle.lending.proofs.Walking.{CellsLeft, cells-begin, cells-go, cells-end}
 use Rattle.lending.proofs.digest.mix_cells.Statement.{statement}
 use Rattle.lending.proofs.digest.mix_cells.Tie as tie
-use Rattle.lending.proofs.digest.mix_cells.Reads as reads
-use Rattle.lending.proofs.digest.mix_cells.Lts as lts
-use Rattle.lending.proofs.digest.mix.Reads as mix-reads
-use Rattle.lending.proofs.digest.wide.Reads as wide-reads
 
 abbrev Inv-loop : tie.InvT-loop
 Inv-loop h cells g₀ i₀ g i = (i ≤ length cells) × CellsLeft h cells g i
@@ -15,39 +12,30 @@ Inv-loop h cells g₀ i₀ g i = (i ≤ length cells) × CellsLeft h cells g i
 abbrev μ-loop : tie.MeasureT-loop
 μ-loop h cells g₀ i₀ g i = length cells - i
 
--- src/digest.rt:218:5
 loop-holds : tie.Need-loop-holds Inv-loop μ-loop
 loop-holds c = (search needs, search (cells-begin, needs))
 
--- src/digest.rt:219:25
 mul-wide : tie.Need-mul-wide Inv-loop μ-loop
 mul-wide c = search needs
 
--- src/digest.rt:219:25
 shared-slice-read-wide : tie.Need-shared-slice-read-wide Inv-loop μ-loop
 shared-slice-read-wide c = search needs
 
--- src/digest.rt:219:20
 wide-requires : tie.Need-wide-requires Inv-loop μ-loop
 wide-requires c κs = search needs
 
--- src/digest.rt:219:9
 mix-requires : tie.Need-mix-requires Inv-loop μ-loop
 mix-requires c κs = search needs
 
--- src/digest.rt:220:9
 add-i : tie.Need-add-i Inv-loop μ-loop
 add-i c = search needs
 
--- src/digest.rt:218:5
 loop-less : tie.Need-loop-less Inv-loop μ-loop
 loop-less c = search needs
 
--- src/digest.rt:218:5
 loop-again : tie.Need-loop-again Inv-loop μ-loop
 loop-again c = (search needs, search (cells-go, needs))
 
--- src/digest.rt:213:1
 returns : tie.Need-returns Inv-loop μ-loop
 returns c = search (cells-end, needs)
 
