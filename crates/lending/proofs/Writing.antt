@@ -10,6 +10,7 @@ use borrow.Author.Tests.{le-leb, lt-leb, lt-ltb, le-ltb, leb-true}
 use lib.Dec.{leb, ltb}
 use lib.ListN.{length, take, drop, set, replicate, length-replicate}
 use lib.Seq.{take-at, drop-at, drop-length, length-take-le, sets, sets-eq}
+use Rattle.table.specs.Machine as M
 use Rattle.cells.specs.Cells.{emptyWord}
 use Rattle.receiver.specs.declared.Part.{Part}
 use Rattle.rows.specs.declared.Key.{Key}
@@ -24,7 +25,7 @@ use Rattle.lending.specs.declared.Outcome.the-variants.{Done, Wrong}
 use Rattle.lending.specs.declared.Change.{Change}
 use Rattle.lending.specs.declared.Change.the-variants as change
 use Rattle.lending.specs.declared.Changed.{Changed}
-use Rattle.lending.specs.Lendings.{rowsIn, RowsBecome, noEnds, lendable, Lent, rowThere, RowSet, cellThere, CellSet, EndsSet, Applied}
+use Rattle.lending.specs.Lendings.{Within, Room, rowsIn, RowsBecome, noEnds, lendable, lentSize, Lent, rowThere, RowSet, cellThere, CellSet, EndsSet, AppliedBy, Applied}
 
 -- THE FIRST ROWS: what they become stands in front of what lies behind them
 module _ (xs x1 : List ℕ) (a n : ℕ) (ea : a ≡ 23 * n) (w : 23 * n ≤ length xs) (l : length x1 ≡ length (take a xs)) where
@@ -141,3 +142,19 @@ module _ (m : Change) (k : Key) (z : Size) (xs ys ws : List ℕ) (r : Changed) w
   pub is-ends : (a b c : ℕ) (ws' : List ℕ) → m ≡ change.Ends a b c → EndsSet z a b c ws' r → Applied m (k .bytes) z xs ys ws xs ys ws' r
   unfolding Applied
   is-ends a b c ws' e h = rw e (refl, refl, h)
+
+-- THE SIZE AFTER: the watch stays within what is lent
+module _ (z : Size) (xs ys ws xs' ys' ws' : List ℕ) (r : Changed) (w : Within z xs ys) (room : Room xs ys) (lx : length xs' ≡ length xs) (ly : length ys' ≡ length ys) where
+  same-size : (o : Outcome) → r ≡ record { outcome = o; size = z } → Within (r .size) xs' ys'
+  same-size o e = rw e (omega arith, omega arith)
+
+  lent-size : (c n : ℕ) (o : Outcome) → o ≡ lendable c n → r ≡ record { outcome = o; size = lentSize o c n z } → Within (r .size) xs' ys'
+  lent-size c n Done e f = let k = lend-fits c n Done e refl in rw f (omega (arith, k .0), omega (arith, k .1))
+  lent-size c n (Wrong g) e f = same-size (Wrong g) f
+
+  pub applied-within : (m : Change) (k : M.Key) → AppliedBy m k z xs ys ws xs' ys' ws' r → Within (r .size) xs' ys'
+  unfolding Lent RowSet CellSet EndsSet
+  applied-within (change.Lend c n) k a = lent-size c n (lendable c n) refl (a .0)
+  applied-within (change.Row i p b c) k a = same-size (rowThere z i) (a .0 .0)
+  applied-within (change.Cell i v) k a = same-size (cellThere z i) (a .1 .0)
+  applied-within (change.Ends b c d) k a = same-size Done (a .2 .0)
