@@ -113,11 +113,11 @@ fn put_counted(out: &mut [u8], n: usize, word: &[u8], value: u64) -> usize
     put(out, b, b"\n")
 }
 
-fn put_float(out: &mut [u8], n: usize, word: &[u8], value: f64) -> usize
+fn put_hex(out: &mut [u8], n: usize, word: &[u8], bits: u64) -> usize
     ensures { λ _. ⌜ length (now (out .exit)) ≡ length (now (out .entry)) ⌝ }
 {
     let a = put(out, n, word);
-    let b = put_bits(out, a, print::bits_of(value));
+    let b = put_bits(out, a, bits);
     put(out, b, b"\n")
 }
 
@@ -130,19 +130,11 @@ pub fn put_reply(out: &mut [u8], n: usize, reply: Reply, number: u64, line: &[u8
         Reply::Answered => n,
         Reply::Place(p) => put_counted(out, n, b"place ", p as u64),
         Reply::Same(yes) => put_counted(out, n, b"same ", yes as u64),
-        Reply::Horizon(km) => put_float(out, n, b"horizon ", km),
+        Reply::Horizon(km) => put_hex(out, n, b"horizon ", print::bits_of(km)),
         Reply::Bucket(b) => put_counted(out, n, b"bucket ", b as u64),
         Reply::Bit(k) => put_counted(out, n, b"bit ", k as u64),
+        Reply::Digest(h) => put_hex(out, n, b"digest ", h),
         Reply::No(question) => put_counted(out, n, b"no ", question as u64),
         Reply::Wrong(fault) => put_error(out, n, fault, number, line),
-        Reply::Unserved => put_error(
-            out,
-            n,
-            Fault::Unknown {
-                end: fields::find(line, b' '),
-            },
-            number,
-            line,
-        ),
     }
 }

@@ -19,7 +19,6 @@ use Rattle.moves.specs.Answers.{outcome}
 use Rattle.moves.specs.declared.Answer.{Answer}
 use Rattle.grammar.specs.declared.Call.{Call}
 use Rattle.grammar.specs.declared.Call.the-variants as call
-use Rattle.session.specs.declared.Size.{Size}
 use Rattle.grammar.specs.declared.Line.{Line}
 use Rattle.grammar.specs.declared.Fault.the-variants as fault
 use Rattle.session.specs.declared.Reply.{Reply}
@@ -30,7 +29,16 @@ use Rattle.session.specs.declared.Told.{Told}
 use Rattle.rows.specs.declared.Key.{Key}
 use Rattle.moves.specs.declared.Word.the-variants as word
 use Rattle.session.specs.Replies.{replyOf}
-use Rattle.session.specs.Watches.{callBy, Within, Room, Called, Stays, Opened, OpenedBy, Answers, viewOf, RanBy, Ran, plainly, sizedOf, noKey, noEnds}
+use Rattle.lending.specs.declared.Size.{Size}
+use Rattle.lending.specs.declared.Outcome.{Outcome}
+use Rattle.lending.specs.declared.Outcome.the-variants as outcome
+use Rattle.lending.specs.declared.Change.{Change}
+use Rattle.lending.specs.declared.Change.the-variants as change
+use Rattle.lending.specs.declared.Changed.{Changed}
+use Rattle.lending.specs.Digests.{digestOf}
+use Rattle.lending.specs.Lendings.{Within, lentTo, Room, noEnds, Applied}
+use Rattle.lending.proofs.Writing.{applied-within}
+use Rattle.session.specs.Watches.{callBy, Called, Stays, Opened, OpenedBy, Answers, replyFor, Written, viewOf, RanBy, Ran, plainly, sizedOf, noKey}
 
 pub call-by : (c m : Call) (k : M.Key) (w : Watch Part) (s : Step (Watch Part) Out) → c ≡ m → s ≡ callBy m k w → s ≡ callBy c k w
 call-by c m k w s e f = f ∙ sym (ap (λ (z : Call). callBy z k w) e)
@@ -69,9 +77,23 @@ module _ (xs ys ws xs' ys' ws' : List ℕ) (r : Told) where
   unfolding Ran
   ran-view-watch l k z v c e f h = rw (← e, f) h
 
+  pub ran-view-write : (l : Line) (k : M.Key) (z : Size) (v : View) (m : Change) → v ≡ viewOf l → v ≡ view.Write m → Written m k z xs ys ws xs' ys' ws' r → Ran l k z xs ys ws xs' ys' ws' r
+  unfolding Ran
+  ran-view-write l k z v m e f h = rw (← e, f) h
+
+  pub written-is : (m : Change) (k : M.Key) (z : Size) (d : Changed) (p : Reply) → Applied m k z xs ys ws xs' ys' ws' d → p ≡ replyFor (d .outcome) → r ≡ plainly (d .size) p → Written m k z xs ys ws xs' ys' ws' r
+  written-is m k z d p a e f = record { to = d; is = a; told = f ∙ ap (plainly (d .size)) e }
+
+pub reply-is : (o q : Outcome) (p : Reply) → o ≡ q → p ≡ replyFor q → p ≡ replyFor o
+reply-is o q p e f = f ∙ sym (ap replyFor e)
+
 pub ran-view-plain : (xs ys ws : List ℕ) (r : Told) (l : Line) (k : M.Key) (z : Size) (v : View) (p : Reply) → v ≡ viewOf l → v ≡ view.Plain → p ≡ replyOf l → r ≡ plainly z p → Ran l k z xs ys ws xs ys ws r
 unfolding Ran
 ran-view-plain xs ys ws r l k z v p e f g h = rw (← e, f) (h ∙ ap (plainly z) g, refl, refl, refl)
+
+pub ran-view-digest : (xs ys ws : List ℕ) (r : Told) (l : Line) (k : M.Key) (z : Size) (v : View) (p : Reply) → v ≡ viewOf l → v ≡ view.Digest → p ≡ reply.Digest (digestOf (lentTo z xs ys ws)) → r ≡ plainly z p → Ran l k z xs ys ws xs ys ws r
+unfolding Ran
+ran-view-digest xs ys ws r l k z v p e f g h = rw (← e, f) (h ∙ ap (plainly z) g, refl, refl, refl)
 
 pub view-is : (l m : Line) (v : View) → l ≡ m → v ≡ viewOf m → v ≡ viewOf l
 view-is l m v e f = f ∙ sym (ap viewOf e)
@@ -97,10 +119,16 @@ module _ (xs ys ws xs' ys' ws' : List ℕ) (z : Size) (r : Told) (h : Within z x
   opened-size c true e s = let k : c ≤ 64 = leb-true c 64 e in rw (s .2) (omega arith, omega arith)
   opened-size c false e s = stays-size (reply.Wrong fault.TooManyRows) s
 
+  written-size : (m : Change) (k : M.Key) → Written m k z xs ys ws xs' ys' ws' r → Within (r .size) xs' ys'
+  unfolding Applied
+  written-size m k s = rw (s .told) (applied-within z xs ys ws xs' ys' ws' (s .to) h room lx ly m k (s .is))
+
   ran-size : (v : View) (l : Line) (k : M.Key) → RanBy v l k z xs ys ws xs' ys' ws' r → Within (r .size) xs' ys'
   unfolding Opened
   ran-size (view.Call c) l k s = same-size (s .2)
   ran-size (view.Watch c) l k s = opened-size c (leb c 64) refl s
+  ran-size view.Digest l k s = stays-size (reply.Digest (digestOf (lentTo z xs ys ws))) s
+  ran-size (view.Write m) l k s = written-size m k s
   ran-size view.Plain l k s = stays-size (replyOf l) s
 
   pub ran-within : (l : Line) (k : M.Key) → Ran l k z xs ys ws xs' ys' ws' r → Within (r .size) xs' ys'

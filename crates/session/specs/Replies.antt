@@ -24,6 +24,7 @@ sameOf a b = cond (held a && held b) (reply.Same (samePlace a b)) (reply.No 4)
 unfoldable pub bitOf : ℕ → ℕ
 bitOf address = trailingZeros 16 (aircraftBit address)
 
+-- a line of the watch gets no answer here
 abbrev pub replyOf : Line → Reply
 replyOf line.Nothing = reply.Nothing
 replyOf (line.Wrong f) = reply.Wrong f
@@ -32,10 +33,10 @@ replyOf (line.Same a b c d) = sameOf (siteOf a b) (siteOf c d)
 replyOf (line.Horizon a b) = reply.Horizon (horizon a b)
 replyOf (line.Bucket feet) = reply.Bucket (bucketOf feet)
 replyOf (line.Bit address) = reply.Bit (bitOf address)
-replyOf (line.Watch c) = reply.Unserved
-replyOf (line.Call c) = reply.Unserved
-replyOf line.Digest = reply.Unserved
-replyOf (line.Lend c n) = reply.Unserved
-replyOf (line.Row i p a b) = reply.Unserved
-replyOf (line.Cell i w) = reply.Unserved
-replyOf (line.Ends a b c) = reply.Unserved
+replyOf (line.Watch c) = reply.Nothing
+replyOf (line.Call c) = reply.Nothing
+replyOf line.Digest = reply.Nothing
+replyOf (line.Lend c n) = reply.Nothing
+replyOf (line.Row i p a b) = reply.Nothing
+replyOf (line.Cell i w) = reply.Nothing
+replyOf (line.Ends a b c) = reply.Nothing

@@ -1,16 +1,15 @@
 -- A list of calls on a lent watch. Definitions only.
-use Prim.Native.Nat.{ℕ, _*_, _-_, _^_, _≤_}
+use Prim.Native.Nat.{ℕ, _*_}
 use mathlib.Core.Path.{_≡_}
 use mathlib.Core.Bool.{Bool, true, false}
-use mathlib.Core.List.{List, [], _∷_}
-use lib.ListN.{length, take, drop, replicate}
+use mathlib.Core.List.{List}
+use lib.ListN.{take, drop, replicate}
 use lib.Dec.{leb}
 use Rattle.table.specs.Machine as M
 use Rattle.table.specs.Machine.{Step}
 use Rattle.table.specs.Rows.{Watch}
 use Rattle.receiver.specs.declared.Part.{Part}
 use Rattle.receiver.specs.Calls.{Out, freshCall, dropOldest, callOn, check, takeOut, claim, position, judging}
-use Rattle.rows.specs.Read.{watchIs}
 use Rattle.flat.specs.Table.{rowsOf}
 use Rattle.moves.specs.Answers.{outcome}
 use Rattle.moves.specs.declared.Answer.{Answer}
@@ -21,13 +20,20 @@ use Rattle.grammar.specs.declared.Line.the-variants as line
 use Rattle.grammar.specs.declared.Fault.the-variants as fault
 use Rattle.rows.specs.declared.Key.{Key}
 use Rattle.moves.specs.declared.Word.the-variants as word
+use Rattle.lending.specs.declared.Size.{Size}
+use Rattle.lending.specs.declared.Outcome.{Outcome}
+use Rattle.lending.specs.declared.Outcome.the-variants as outcome
+use Rattle.lending.specs.declared.Change.{Change}
+use Rattle.lending.specs.declared.Change.the-variants as change
+use Rattle.lending.specs.declared.Changed.{Changed}
+use Rattle.lending.specs.Digests.{digestOf}
+use Rattle.lending.specs.Lendings.{lentTo, noEnds, Applied}
 use Rattle.session.specs.Replies.{replyOf}
 use Rattle.session.specs.declared.Reply.{Reply}
 use Rattle.session.specs.declared.Reply.the-variants as reply
 use Rattle.session.specs.declared.View.{View}
 use Rattle.session.specs.declared.View.the-variants as view
 use Rattle.session.specs.declared.Told.{Told}
-use Rattle.session.specs.declared.Size.{Size}
 
 -- the call that a line asks for, of the key that it names
 abbrev pub callBy : Call → M.Key → Watch Part → Step (Watch Part) Out
@@ -38,13 +44,6 @@ callBy call.TakeOut k w = callOn w k takeOut
 callBy (call.Claim s) k w = callOn w k (claim s)
 callBy (call.Position p) k w = callOn w k (position p)
 callBy (call.Judging t n) k w = callOn w k (judging t n)
-
--- the watch is the first 23 × C words of the rows, the first N cells, and the ends
-abbrev pub Within : Size → List ℕ → List ℕ → Type 0
-Within z xs ys = (23 * z .rows ≤ length xs) × (z .cells ≤ length ys)
-
-abbrev pub lentTo : Size → List ℕ → List ℕ → List ℕ → Watch Part
-lentTo z xs ys ws = watchIs (rowsOf (take (23 * z .rows) xs)) (take (z .cells) ys) ws
 
 -- a call comes to what its definition says of that watch, and what lies behind it stays
 pub record Called (z : Size) (c : Call) (k : M.Key) (xs ys ws xs' ys' ws' : List ℕ) (r : Answer) : Type 0 where
@@ -57,18 +56,12 @@ pub record Called (z : Size) (c : Call) (k : M.Key) (xs ys ws xs' ys' ws' : List
 abbrev pub noKey : Key
 noKey = record { bytes = replicate 32 0 }
 
-abbrev pub noEnds : List ℕ
-noEnds = (2 ^ 32 - 1) ∷ (2 ^ 32 - 1) ∷ (2 ^ 32 - 1) ∷ []
-
 abbrev pub plainly : Size → Reply → Told
 plainly z r = record { reply = r; answer = record { word = word.Done; pushed = false; key = replicate 32 0 }; size = z }
 
--- a watch of C rows has 3,344 × C cells; 64 rows and their cells are lent
+-- a watch of C rows has 3,344 × C cells
 abbrev pub sizedOf : ℕ → Size
 sizedOf c = record { rows = c; cells = 3344 * c }
-
-abbrev pub Room : List ℕ → List ℕ → Type 0
-Room xs ys = (1472 ≤ length xs) × (214016 ≤ length ys)
 
 -- the watch stays as it is
 abbrev pub Stays : Reply → Size → List ℕ → List ℕ → List ℕ → List ℕ → List ℕ → List ℕ → Told → Type 0
@@ -86,6 +79,16 @@ Opened c z xs ys ws xs' ys' ws' r = OpenedBy (leb c 64) c z xs ys ws xs' ys' ws'
 abbrev pub Answers : Call → M.Key → Size → List ℕ → List ℕ → List ℕ → List ℕ → List ℕ → List ℕ → Told → Type 0
 Answers c k z xs ys ws xs' ys' ws' r = Called z c k xs ys ws xs' ys' ws' (r .answer) × (r .reply ≡ reply.Answered) × (r .size ≡ z)
 
+-- lend, row, cell, ends: what is written, and no answer but for what is wrong
+abbrev pub replyFor : Outcome → Reply
+replyFor outcome.Done = reply.Nothing
+replyFor (outcome.Wrong f) = reply.Wrong f
+
+pub record Written (m : Change) (k : M.Key) (z : Size) (xs ys ws xs' ys' ws' : List ℕ) (r : Told) : Type 0 where
+  pub to : Changed
+  pub is : Applied m k z xs ys ws xs' ys' ws' to
+  pub told : r ≡ plainly (to .size) (replyFor (to .outcome))
+
 -- what a line asks of the watch
 abbrev pub viewOf : Line → View
 viewOf (line.Call c) = view.Call c
@@ -97,15 +100,17 @@ viewOf (line.Same a b c d) = view.Plain
 viewOf (line.Horizon a b) = view.Plain
 viewOf (line.Bucket f) = view.Plain
 viewOf (line.Bit a) = view.Plain
-viewOf line.Digest = view.Plain
-viewOf (line.Lend c n) = view.Plain
-viewOf (line.Row i p a b) = view.Plain
-viewOf (line.Cell i w) = view.Plain
-viewOf (line.Ends a b c) = view.Plain
+viewOf line.Digest = view.Digest
+viewOf (line.Lend c n) = view.Write (change.Lend c n)
+viewOf (line.Row i p a b) = view.Write (change.Row i p a b)
+viewOf (line.Cell i w) = view.Write (change.Cell i w)
+viewOf (line.Ends a b c) = view.Write (change.Ends a b c)
 
 abbrev pub RanBy : View → Line → M.Key → Size → List ℕ → List ℕ → List ℕ → List ℕ → List ℕ → List ℕ → Told → Type 0
 RanBy (view.Call c) l k z xs ys ws xs' ys' ws' r = Answers c k z xs ys ws xs' ys' ws' r
 RanBy (view.Watch c) l k z xs ys ws xs' ys' ws' r = Opened c z xs ys ws xs' ys' ws' r
+RanBy view.Digest l k z xs ys ws xs' ys' ws' r = Stays (reply.Digest (digestOf (lentTo z xs ys ws))) z xs ys ws xs' ys' ws' r
+RanBy (view.Write m) l k z xs ys ws xs' ys' ws' r = Written m k z xs ys ws xs' ys' ws' r
 RanBy view.Plain l k z xs ys ws xs' ys' ws' r = Stays (replyOf l) z xs ys ws xs' ys' ws' r
 
 unfoldable pub Ran : Line → M.Key → Size → List ℕ → List ℕ → List ℕ → List ℕ → List ℕ → List ℕ → Told → Type 0

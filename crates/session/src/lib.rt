@@ -6,12 +6,17 @@ use grammar::Call;
 use grammar::Fault;
 use grammar::Line;
 use grammar::Said;
+use lending::Change;
+use lending::Outcome;
+use lending::Size;
+use rows::Key;
 use moves::Answer;
 use moves::Word;
-use rows::Key;
 ghost use mathlib.Core.Path.{_≡_};
 ghost use Prim.Native.Nat.{_≤_};
-ghost use Rattle.session.specs.Watches.{noKey, noEnds, plainly, sizedOf, Within, Room, Opened, Answers, viewOf, Ran};
+ghost use Rattle.lending.specs.Digests.{digestOf};
+ghost use Rattle.lending.specs.Lendings.{Within, lentTo, Room};
+ghost use Rattle.session.specs.Watches.{noKey, plainly, sizedOf, Opened, Answers, replyFor, Written, viewOf, Ran};
 
 pub enum Reply {
     Nothing,
@@ -23,15 +28,8 @@ pub enum Reply {
     Bucket(u8),
     Bit(u32),
     No(u8),
+    Digest(u64),
     Wrong(Fault),
-    // The line is not served yet.
-    Unserved,
-}
-
-// How many rows and cells the watch has.
-pub struct Size {
-    pub rows: u32,
-    pub cells: u32,
 }
 
 // What a line is answered, and how large the watch is after it.
@@ -84,12 +82,6 @@ pub fn sized(c: u32) -> Size
     }
 }
 
-fn none_ends(ends: &mut [u32; 3])
-    ensures { λ _. ⌜ now (ends .exit) ≡ noEnds ⌝ }
-{
-    *ends = [4294967295, 4294967295, 4294967295];
-}
-
 // watch C: a fresh watch of C rows.
 pub fn open(z: Size, rows: &mut [u64], cells: &mut [u32], ends: &mut [u32; 3], c: u32) -> Told
     requires { ⌜ Room (now rows) (now cells) ⌝ }
@@ -99,7 +91,7 @@ pub fn open(z: Size, rows: &mut [u64], cells: &mut [u32], ends: &mut [u32; 3], c
         return plain(z, Reply::Wrong(Fault::TooManyRows));
     }
     let y = sized(c);
-    none_ends(ends);
+    lending::no_ends(ends);
     let a = run::call_in(y, rows, cells, ends, Call::Fresh, no_key());
     telling(y, Reply::Nothing, a)
 }
@@ -120,6 +112,40 @@ fn call(
     telling(z, Reply::Answered, a)
 }
 
+fn reply_for(o: Outcome) -> Reply
+    ensures { λ r. ⌜ r ≡ replyFor o ⌝ }
+{
+    match o {
+        Outcome::Done => Reply::Nothing,
+        Outcome::Wrong(fault) => Reply::Wrong(fault),
+    }
+}
+
+// A line that writes the watch.
+fn write(
+    z: Size,
+    rows: &mut [u64],
+    cells: &mut [u32],
+    ends: &mut [u32; 3],
+    asked: Change,
+    key: Key,
+) -> Told
+    requires { ⌜ Within z (now rows) (now cells) × Room (now rows) (now cells) ⌝ }
+    ensures { λ r. ⌜ Written asked (key .bytes) z (now (rows .entry)) (now (cells .entry)) (now (ends .entry)) (now (rows .exit)) (now (cells .exit)) (now (ends .exit)) r ⌝ }
+{
+    let done = lending::apply(z, rows, cells, ends, asked, key);
+    let outcome = done.outcome;
+    let size = done.size;
+    plain(size, reply_for(outcome))
+}
+
+fn digest(z: Size, rows: &[u64], cells: &[u32], ends: &[u32; 3]) -> Reply
+    requires { ⌜ Within z (now rows) (now cells) ⌝ }
+    ensures { λ r. ⌜ r ≡ Reply.Digest (digestOf (lentTo z (now (rows .entry)) (now (cells .entry)) (now (ends .entry)))) ⌝ }
+{
+    Reply::Digest(lending::digest::whole(z, rows, cells, ends))
+}
+
 fn key_of(k: [u8; 32]) -> Key
     ensures { λ r. ⌜ r ≡ record { bytes = k } ⌝ }
 {
@@ -130,6 +156,8 @@ fn key_of(k: [u8; 32]) -> Key
 pub enum View {
     Call(Call),
     Watch(u32),
+    Digest,
+    Write(Change),
     Plain,
 }
 
@@ -156,20 +184,21 @@ fn view_of(line: Line) -> View
         Line::Horizon { a: _, b: _ } => View::Plain,
         Line::Bucket(_) => View::Plain,
         Line::Bit { address: _ } => View::Plain,
-        Line::Digest => View::Plain,
-        Line::Lend { rows: _, cells: _ } => View::Plain,
+        Line::Digest => View::Digest,
+        Line::Lend { rows: c, cells: n } => View::Write(Change::Lend { rows: c, cells: n }),
         Line::Row {
-            at: _,
-            part: _,
-            prev: _,
-            next: _,
-        } => View::Plain,
-        Line::Cell { at: _, word: _ } => View::Plain,
-        Line::Ends {
-            first: _,
-            last: _,
-            free: _,
-        } => View::Plain,
+            at,
+            part,
+            prev,
+            next,
+        } => View::Write(Change::Row {
+            at,
+            part,
+            prev,
+            next,
+        }),
+        Line::Cell { at, word } => View::Write(Change::Cell { at, word }),
+        Line::Ends { first, last, free } => View::Write(Change::Ends { first, last, free }),
     }
 }
 
@@ -188,6 +217,8 @@ fn line(
     match view_of(asked) {
         View::Call(c) => call(z, rows, cells, ends, c, key),
         View::Watch(c) => open(z, rows, cells, ends, c),
+        View::Digest => plain(z, digest(z, rows, cells, ends)),
+        View::Write(m) => write(z, rows, cells, ends, m, key),
         View::Plain => plain(z, single::answer(asked)),
     }
 }

@@ -1,15 +1,16 @@
 // The seven calls on the watch that is lent: the first 23 × C words of the rows, the first N cells, and the ends.
-use crate::Size;
 use grammar::Call;
-use moves::Answer;
+use lending::Size;
 use rows::Key;
+use moves::Answer;
 ghost use mathlib.Core.Path.{_≡_};
 ghost use Prim.Native.Nat.{_*_, _≤_};
 ghost use lib.ListN.{length};
 ghost use Rattle.rows.specs.Read.{watchIs};
 ghost use Rattle.flat.specs.Table.{rowsOf};
 ghost use Rattle.moves.specs.Answers.{outcome};
-ghost use Rattle.session.specs.Watches.{callBy, Within, Called};
+ghost use Rattle.lending.specs.Lendings.{Within};
+ghost use Rattle.session.specs.Watches.{callBy, Called};
 
 // One of the seven calls, on the words and cells of a watch.
 fn by(rows: &mut [u64], cells: &mut [u32], ends: &mut [u32; 3], call: Call, key: Key) -> Answer

@@ -1,6 +1,6 @@
--- `session::line` meets its contract: each way out is a law of its head.
-use Rattle.session.proofs.Watches.{ran-view-call, ran-view-watch, ran-view-plain}
+-- `session::line` meets its contract: each view by its clause of the definition.
 use borrow.Author.Needs.{needs}
+use Rattle.session.proofs.Watches.{ran-view-call, ran-view-watch, ran-view-digest, ran-view-write, ran-view-plain}
 use Rattle.session.proofs.line.Statement.{statement}
 use Rattle.session.proofs.line.Tie as tie
 
@@ -22,11 +22,26 @@ open-requires c κs = search needs
 enum-told : tie.Need-enum-told
 enum-told c = search needs
 
-answer-requires : tie.Need-answer-requires
-answer-requires c κs = search needs
+digest-requires : tie.Need-digest-requires
+digest-requires c κs = search needs
 
 plain-requires : tie.Need-plain-requires
 plain-requires c κs = search needs
+
+enum-known-m : tie.Need-enum-known-m
+enum-known-m c = search needs
+
+write-requires : tie.Need-write-requires
+write-requires c κs = search needs
+
+enum-told-2 : tie.Need-enum-told-2
+enum-told-2 c = search needs
+
+answer-requires : tie.Need-answer-requires
+answer-requires c κs = search needs
+
+plain-requires-2 : tie.Need-plain-requires-2
+plain-requires-2 c κs = search needs
 
 same-length : tie.Need-same-length
 same-length c = search needs
@@ -46,8 +61,26 @@ same-length-4 c = search needs
 returns-2 : tie.Need-returns-2
 returns-2 c = search (ran-view-watch, needs)
 
+same-length-5 : tie.Need-same-length-5
+same-length-5 c = search needs
+
+same-length-6 : tie.Need-same-length-6
+same-length-6 c = search needs
+
 returns-3 : tie.Need-returns-3
-returns-3 c = search (ran-view-plain, needs)
+returns-3 c = search (ran-view-digest, needs)
+
+same-length-7 : tie.Need-same-length-7
+same-length-7 c = search needs
+
+same-length-8 : tie.Need-same-length-8
+same-length-8 c = search needs
+
+returns-4 : tie.Need-returns-4
+returns-4 c = search (ran-view-write, needs)
+
+returns-5 : tie.Need-returns-5
+returns-5 c = search (ran-view-plain, needs)
 
 pub line-spec : {M : Type 1} → statement M
 line-spec =
@@ -59,12 +92,23 @@ line-spec =
     enum-known-c-2
     open-requires
     enum-told
-    answer-requires
+    digest-requires
     plain-requires
+    enum-known-m
+    write-requires
+    enum-told-2
+    answer-requires
+    plain-requires-2
     same-length
     same-length-2
     returns
     same-length-3
     same-length-4
     returns-2
-    returns-3)
+    same-length-5
+    same-length-6
+    returns-3
+    same-length-7
+    same-length-8
+    returns-4
+    returns-5)

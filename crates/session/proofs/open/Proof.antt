@@ -13,8 +13,8 @@ returns c = search (opened-not, needs)
 sized-requires : tie.Need-sized-requires
 sized-requires c κs = search needs
 
-none-ends-requires : tie.Need-none-ends-requires
-none-ends-requires c κs = search needs
+no-ends-requires : tie.Need-no-ends-requires
+no-ends-requires c κs = search needs
 
 no-key-requires : tie.Need-no-key-requires
 no-key-requires c κs = search needs
@@ -41,7 +41,7 @@ open-spec =
     plain-requires
     returns
     sized-requires
-    none-ends-requires
+    no-ends-requires
     no-key-requires
     call-in-requires
     telling-requires

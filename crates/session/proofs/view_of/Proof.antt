@@ -1,6 +1,6 @@
--- `session::view_of` meets its contract: each way out is a law of its head.
-use Rattle.session.proofs.Watches.{view-is}
+-- `session::view_of` meets its contract: each kind of line by its clause of the definition.
 use borrow.Author.Needs.{needs}
+use Rattle.session.proofs.Watches.{view-is}
 use Rattle.session.proofs.view_of.Statement.{statement}
 use Rattle.session.proofs.view_of.Tie as tie
 
@@ -34,17 +34,17 @@ enum-told-7 c = search needs
 enum-told-8 : tie.Need-enum-told-8
 enum-told-8 c = search needs
 
-enum-told-9 : tie.Need-enum-told-9
-enum-told-9 c = search needs
+enum-known-line-3 : tie.Need-enum-known-line-3
+enum-known-line-3 c = search needs
 
-enum-told-10 : tie.Need-enum-told-10
-enum-told-10 c = search needs
+enum-known-line-4 : tie.Need-enum-known-line-4
+enum-known-line-4 c = search needs
 
-enum-told-11 : tie.Need-enum-told-11
-enum-told-11 c = search needs
+enum-known-line-5 : tie.Need-enum-known-line-5
+enum-known-line-5 c = search needs
 
-enum-told-12 : tie.Need-enum-told-12
-enum-told-12 c = search needs
+enum-known-line-6 : tie.Need-enum-known-line-6
+enum-known-line-6 c = search needs
 
 returns : tie.Need-returns
 returns c = search (view-is, needs)
@@ -77,16 +77,16 @@ returns-10 : tie.Need-returns-10
 returns-10 c = search needs
 
 returns-11 : tie.Need-returns-11
-returns-11 c = search needs
+returns-11 c = search (view-is, needs)
 
 returns-12 : tie.Need-returns-12
-returns-12 c = search needs
+returns-12 c = search (view-is, needs)
 
 returns-13 : tie.Need-returns-13
-returns-13 c = search needs
+returns-13 c = search (view-is, needs)
 
 returns-14 : tie.Need-returns-14
-returns-14 c = search needs
+returns-14 c = search (view-is, needs)
 
 pub view-of-spec : {M : Type 1} → statement M
 view-of-spec =
@@ -102,10 +102,10 @@ view-of-spec =
     enum-told-6
     enum-told-7
     enum-told-8
-    enum-told-9
-    enum-told-10
-    enum-told-11
-    enum-told-12
+    enum-known-line-3
+    enum-known-line-4
+    enum-known-line-5
+    enum-known-line-6
     returns
     returns-2
     returns-3
