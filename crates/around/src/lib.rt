@@ -2,6 +2,7 @@
 ghost use mathlib.Core.Path.{_≡_};
 ghost use Prim.Native.Nat.{_%_, _≤_, _<_};
 ghost use Rattle.around.specs.Marks.{aroundOf, sectorsIn};
+
 pub mod spans;
 
 // What lies around a place: the sectors that are marked, the aircraft bits, the cells.
