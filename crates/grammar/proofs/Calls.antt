@@ -9,6 +9,7 @@ use lib.ListN.{length, replicate}
 use Rattle.fields.specs.Text.{textEnd, fieldAt, partOf, sameBytes}
 use Rattle.fields.specs.declared.Field.{Field}
 use Rattle.fields.specs.declared.Field.the-variants.{At, Stray, End}
+use Rattle.grammar.specs.declared.Name.{Name}
 use Rattle.grammar.specs.declared.Name.the-variants as name
 use Rattle.grammar.specs.declared.Fault.the-variants as fault
 use Rattle.grammar.specs.declared.Line.{Line}
@@ -61,17 +62,20 @@ pick-other w n k o b e f = rw (← e, f)
 
 -- ---- the lines
 module _ (t : List ℕ) (p : Place) where
-  pub bare-line : (x l : Line) (e : Place) (r : Said) → e ≡ endedAt t p name.Word → l ≡ toldBy e x → r ≡ saying l → r ≡ bareLine t p x
+  pub closed : (last : Name) (x l : Line) (e : Place) (r : Said) → e ≡ endedAt t p last → l ≡ toldBy e x → r ≡ saying l → r ≡ saying (toldBy (endedAt t p last) x)
+  closed last x l e r h1 h2 h3 = rw (h3, h2, h1)
+
+  pub bare-line : (x : Line) (r : Said) → r ≡ saying (toldBy (endedAt t p name.Word) x) → r ≡ bareLine t p x
   unfolding bareLine
-  bare-line x l e r h1 h2 h3 = rw (h3, h2, h1)
+  bare-line x r h = h
 
   pub key-line : (x l : Line) (k : Named) (e : Place) → k ≡ keyAt t p → e ≡ endedAt t (k .place) name.Key → l ≡ toldBy e x → record { line = l; key = k .key } ≡ keyLine t p x
   unfolding keyLine
   key-line x l k e h1 h2 h3 = rw (h3, h2, h1)
 
-  pub watch-line : (w : Small) (e : Place) (l : Line) (r : Said) → w ≡ smallAt t p name.Rows → e ≡ endedAt t (w .place) name.Rows → l ≡ toldBy e (line.Watch (w .n)) → r ≡ saying l → r ≡ watchLine t p
+  pub watch-line : (w : Small) (r : Said) → w ≡ smallAt t p name.Rows → r ≡ saying (toldBy (endedAt t (w .place) name.Rows) (line.Watch (w .n))) → r ≡ watchLine t p
   unfolding watchLine
-  watch-line w e l r h1 h2 h3 h4 = rw (h4, h3, h2, h1)
+  watch-line w r h1 h2 = rw (h2, h1)
 
   pub claim-line : (k : Named) (x : SiteHeld) (e : Place) (l : Line) → k ≡ keyAt t p → x ≡ claimAt t (k .place) → e ≡ endedAt t (x .place) name.Alt → l ≡ toldBy e (line.Call (call.Claim (x .site))) → record { line = l; key = k .key } ≡ claimLine t p
   unfolding claimLine
@@ -85,37 +89,37 @@ module _ (t : List ℕ) (p : Place) where
   unfolding judgingLine
   judging-line k a b e l h1 h2 h3 h4 h5 = rw (h5, h4, h3, h2, h1)
 
-  pub place-line : (x : Four) (e : Place) (l : Line) (r : Said) → x ≡ fourAt t p → e ≡ endedAt t (x .place) name.Lon2 → l ≡ toldBy e (line.Place (x .a) (x .b) (x .c) (x .d)) → r ≡ saying l → r ≡ placeLine t p
+  pub place-line : (x : Four) (r : Said) → x ≡ fourAt t p → r ≡ saying (toldBy (endedAt t (x .place) name.Lon2) (line.Place (x .a) (x .b) (x .c) (x .d))) → r ≡ placeLine t p
   unfolding placeLine
-  place-line x e l r h1 h2 h3 h4 = rw (h4, h3, h2, h1)
+  place-line x r h1 h2 = rw (h2, h1)
 
-  pub same-line : (x : Four) (e : Place) (l : Line) (r : Said) → x ≡ fourAt t p → e ≡ endedAt t (x .place) name.Lon2 → l ≡ toldBy e (line.Same (x .a) (x .b) (x .c) (x .d)) → r ≡ saying l → r ≡ sameLine t p
+  pub same-line : (x : Four) (r : Said) → x ≡ fourAt t p → r ≡ saying (toldBy (endedAt t (x .place) name.Lon2) (line.Same (x .a) (x .b) (x .c) (x .d))) → r ≡ sameLine t p
   unfolding sameLine
-  same-line x e l r h1 h2 h3 h4 = rw (h4, h3, h2, h1)
+  same-line x r h1 h2 = rw (h2, h1)
 
-  pub horizon-line : (x : Two) (e : Place) (l : Line) (r : Said) → x ≡ twoAt t p name.A name.B → e ≡ endedAt t (x .place) name.B → l ≡ toldBy e (line.Horizon (x .a) (x .b)) → r ≡ saying l → r ≡ horizonLine t p
+  pub horizon-line : (x : Two) (r : Said) → x ≡ twoAt t p name.A name.B → r ≡ saying (toldBy (endedAt t (x .place) name.B) (line.Horizon (x .a) (x .b))) → r ≡ horizonLine t p
   unfolding horizonLine
-  horizon-line x e l r h1 h2 h3 h4 = rw (h4, h3, h2, h1)
+  horizon-line x r h1 h2 = rw (h2, h1)
 
-  pub bucket-line : (m : FeetHeld) (e : Place) (l : Line) (r : Said) → m ≡ feetAt t p → e ≡ endedAt t (m .place) name.Feet → l ≡ toldBy e (line.Bucket (m .feet)) → r ≡ saying l → r ≡ bucketLine t p
+  pub bucket-line : (m : FeetHeld) (r : Said) → m ≡ feetAt t p → r ≡ saying (toldBy (endedAt t (m .place) name.Feet) (line.Bucket (m .feet))) → r ≡ bucketLine t p
   unfolding bucketLine
-  bucket-line m e l r h1 h2 h3 h4 = rw (h4, h3, h2, h1)
+  bucket-line m r h1 h2 = rw (h2, h1)
 
-  pub bit-line : (w : Small) (e : Place) (l : Line) (r : Said) → w ≡ smallAt t p name.Address → e ≡ endedAt t (w .place) name.Address → l ≡ toldBy e (line.Bit (w .n)) → r ≡ saying l → r ≡ bitLine t p
+  pub bit-line : (w : Small) (r : Said) → w ≡ smallAt t p name.Address → r ≡ saying (toldBy (endedAt t (w .place) name.Address) (line.Bit (w .n))) → r ≡ bitLine t p
   unfolding bitLine
-  bit-line w e l r h1 h2 h3 h4 = rw (h4, h3, h2, h1)
+  bit-line w r h1 h2 = rw (h2, h1)
 
-  pub lend-line : (a b : Small) (e : Place) (l : Line) (r : Said) → a ≡ smallAt t p name.Rows → b ≡ smallAt t (a .place) name.Cells → e ≡ endedAt t (b .place) name.Cells → l ≡ toldBy e (line.Lend (a .n) (b .n)) → r ≡ saying l → r ≡ lendLine t p
+  pub lend-line : (a b : Small) (r : Said) → a ≡ smallAt t p name.Rows → b ≡ smallAt t (a .place) name.Cells → r ≡ saying (toldBy (endedAt t (b .place) name.Cells) (line.Lend (a .n) (b .n))) → r ≡ lendLine t p
   unfolding lendLine
-  lend-line a b e l r h1 h2 h3 h4 h5 = rw (h5, h4, h3, h2, h1)
+  lend-line a b r h1 h2 h3 = rw (h3, h2, h1)
 
-  pub cell-line : (a b : Small) (e : Place) (l : Line) (r : Said) → a ≡ smallAt t p name.Number → b ≡ smallAt t (a .place) name.Value → e ≡ endedAt t (b .place) name.Value → l ≡ toldBy e (line.Cell (a .n) (b .n)) → r ≡ saying l → r ≡ cellLine t p
+  pub cell-line : (a b : Small) (r : Said) → a ≡ smallAt t p name.Number → b ≡ smallAt t (a .place) name.Value → r ≡ saying (toldBy (endedAt t (b .place) name.Value) (line.Cell (a .n) (b .n))) → r ≡ cellLine t p
   unfolding cellLine
-  cell-line a b e l r h1 h2 h3 h4 h5 = rw (h5, h4, h3, h2, h1)
+  cell-line a b r h1 h2 h3 = rw (h3, h2, h1)
 
-  pub ends-line : (a b d : Small) (e : Place) (l : Line) (r : Said) → a ≡ linkAt t p name.First → b ≡ linkAt t (a .place) name.Last → d ≡ linkAt t (b .place) name.Free → e ≡ endedAt t (d .place) name.Free → l ≡ toldBy e (line.Ends (a .n) (b .n) (d .n)) → r ≡ saying l → r ≡ endsLine t p
+  pub ends-line : (a b d : Small) (r : Said) → a ≡ linkAt t p name.First → b ≡ linkAt t (a .place) name.Last → d ≡ linkAt t (b .place) name.Free → r ≡ saying (toldBy (endedAt t (d .place) name.Free) (line.Ends (a .n) (b .n) (d .n))) → r ≡ endsLine t p
   unfolding endsLine
-  ends-line a b d e l r h1 h2 h3 h4 h5 h6 = rw (h6, h5, h4, h3, h2, h1)
+  ends-line a b d r h1 h2 h3 h4 = rw (h4, h3, h2, h1)
 
   pub row-line : (i : Small) (k : Named) (x : PartHeld) (y : LinksHeld) (e : Place) (l : Line) → i ≡ smallAt t p name.Number → k ≡ keyAt t (i .place) → x ≡ partAt t (k .place) → y ≡ linksAt t (x .place)
       → e ≡ endedAt t (y .place) name.After → l ≡ toldBy e (line.Row (i .n) (x .part) (y .prev) (y .next)) → record { line = l; key = k .key } ≡ rowLine t p

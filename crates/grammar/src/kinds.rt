@@ -8,6 +8,7 @@ use crate::place;
 use crate::place::Place;
 use receiver::Position;
 ghost use mathlib.Core.Path.{_≡_};
+ghost use Rattle.grammar.specs.Fields.{endedAt};
 ghost use Rattle.grammar.specs.Lines.{pickOf, whichSingle, whichCall, whichLent, whichOf, toldBy, saying, bareLine, keyLine, watchLine, claimLine, positionLine, judgingLine, placeLine, sameLine, horizonLine, bucketLine, bitLine, lendLine, rowLine, cellLine, endsLine, lineBy};
 
 pub enum Kind {
@@ -92,11 +93,18 @@ fn told(p: Place, line: Line) -> Line
     Line::Wrong(fault)
 }
 
+// The same of a line that names no key, whose last field was read.
+fn closed(t: &[u8], p: Place, last: Name, line: Line) -> Said
+    ensures { λ r. ⌜ r ≡ saying (toldBy (endedAt (now (t .entry)) p last) line) ⌝ }
+{
+    let e = place::ended(t, p, last);
+    crate::say(told(e, line))
+}
+
 fn bare_line(t: &[u8], p: Place, line: Line) -> Said
     ensures { λ r. ⌜ r ≡ bareLine (now (t .entry)) p line ⌝ }
 {
-    let e = place::ended(t, p, Name::Word);
-    crate::say(told(e, line))
+    closed(t, p, Name::Word, line)
 }
 
 fn key_line(t: &[u8], p: Place, line: Line) -> Said
@@ -117,8 +125,7 @@ fn watch_line(t: &[u8], p: Place) -> Said
 {
     let w = place::small_at(t, p, Name::Rows);
     let q = w.place;
-    let e = place::ended(t, q, Name::Rows);
-    crate::say(told(e, Line::Watch { rows: w.n }))
+    closed(t, q, Name::Rows, Line::Watch { rows: w.n })
 }
 
 fn claim_line(t: &[u8], p: Place) -> Said
@@ -196,16 +203,17 @@ fn place_line(t: &[u8], p: Place) -> Said
 {
     let x = place::four_at(t, p);
     let q = x.place;
-    let e = place::ended(t, q, Name::Lon2);
-    crate::say(told(
-        e,
+    closed(
+        t,
+        q,
+        Name::Lon2,
         Line::Place {
             lat1: x.a,
             lon1: x.b,
             lat2: x.c,
             lon2: x.d,
         },
-    ))
+    )
 }
 
 fn same_line(t: &[u8], p: Place) -> Said
@@ -213,16 +221,17 @@ fn same_line(t: &[u8], p: Place) -> Said
 {
     let x = place::four_at(t, p);
     let q = x.place;
-    let e = place::ended(t, q, Name::Lon2);
-    crate::say(told(
-        e,
+    closed(
+        t,
+        q,
+        Name::Lon2,
         Line::Same {
             lat1: x.a,
             lon1: x.b,
             lat2: x.c,
             lon2: x.d,
         },
-    ))
+    )
 }
 
 fn horizon_line(t: &[u8], p: Place) -> Said
@@ -230,8 +239,7 @@ fn horizon_line(t: &[u8], p: Place) -> Said
 {
     let x = place::two_at(t, p, Name::A, Name::B);
     let q = x.place;
-    let e = place::ended(t, q, Name::B);
-    crate::say(told(e, Line::Horizon { a: x.a, b: x.b }))
+    closed(t, q, Name::B, Line::Horizon { a: x.a, b: x.b })
 }
 
 fn bucket_line(t: &[u8], p: Place) -> Said
@@ -239,9 +247,8 @@ fn bucket_line(t: &[u8], p: Place) -> Said
 {
     let m = place::feet_at(t, p);
     let q = m.place;
-    let e = place::ended(t, q, Name::Feet);
     let feet = m.feet;
-    crate::say(told(e, Line::Bucket(feet)))
+    closed(t, q, Name::Feet, Line::Bucket(feet))
 }
 
 fn bit_line(t: &[u8], p: Place) -> Said
@@ -249,8 +256,7 @@ fn bit_line(t: &[u8], p: Place) -> Said
 {
     let w = place::small_at(t, p, Name::Address);
     let q = w.place;
-    let e = place::ended(t, q, Name::Address);
-    crate::say(told(e, Line::Bit { address: w.n }))
+    closed(t, q, Name::Address, Line::Bit { address: w.n })
 }
 
 fn lend_line(t: &[u8], p: Place) -> Said
@@ -260,14 +266,15 @@ fn lend_line(t: &[u8], p: Place) -> Said
     let pa = a.place;
     let b = place::small_at(t, pa, Name::Cells);
     let pb = b.place;
-    let e = place::ended(t, pb, Name::Cells);
-    crate::say(told(
-        e,
+    closed(
+        t,
+        pb,
+        Name::Cells,
         Line::Lend {
             rows: a.n,
             cells: b.n,
         },
-    ))
+    )
 }
 
 fn row_line(t: &[u8], p: Place) -> Said
@@ -305,8 +312,7 @@ fn cell_line(t: &[u8], p: Place) -> Said
     let pa = a.place;
     let b = place::small_at(t, pa, Name::Value);
     let pb = b.place;
-    let e = place::ended(t, pb, Name::Value);
-    crate::say(told(e, Line::Cell { at: a.n, word: b.n }))
+    closed(t, pb, Name::Value, Line::Cell { at: a.n, word: b.n })
 }
 
 fn ends_line(t: &[u8], p: Place) -> Said
@@ -318,15 +324,16 @@ fn ends_line(t: &[u8], p: Place) -> Said
     let pb = b.place;
     let d = place::link_at(t, pb, Name::Free);
     let pd = d.place;
-    let e = place::ended(t, pd, Name::Free);
-    crate::say(told(
-        e,
+    closed(
+        t,
+        pd,
+        Name::Free,
         Line::Ends {
             first: a.n,
             last: b.n,
             free: d.n,
         },
-    ))
+    )
 }
 
 // A call of this kind, whose word ends at `end`.

@@ -3,7 +3,7 @@ use mathlib.Core.Path.{_≡_, refl, sym, ap, _∙_, subst}
 use mathlib.Core.Bool.{Bool, true, false, _&&_, cond}
 use mathlib.Core.List.{List, [], _∷_}
 use Prim.Native.Nat.{ℕ, zero, suc, _+_, _-_, _*_, _/_, _^_, _≤_, _<_}
-use native.Mathlib.Nat.{le-div-iff-mul-le, div-lt-iff-lt-mul, mul-le-mul-left, mul-one}
+use native.Mathlib.Nat.{le-of-lt, le-div-iff-mul-le, div-lt-iff-lt-mul, mul-le-mul-left, mul-one}
 use native.Mathlib.Omega.{arith}
 use borrow.Author.Tests.{lt-ltb, le-ltb, le-leb, lt-leb, leb-true}
 use lib.Dec.{T, ltb, leb}
@@ -72,11 +72,11 @@ read-all base most from n s i h l m d v =
     rw (v', d', lt-ltb 0 (length s) h, le-leb n most m)
 
 -- the product that the code makes fits where n is at most the quotient, and passes `most` where it is above
-pub under : (n base most : ℕ) → 0 < base → n ≤ most / base → n * base ≤ most
-under n base most h l = le-div-iff-mul-le h .0 l
+pub under : (n base most top : ℕ) → 1 < base → top ≡ most / base → n ≤ top → n * base ≤ most
+under n base most top b e l = le-div-iff-mul-le (le-of-lt b) .0 (subst (λ (q : ℕ). n ≤ q) e l)
 
-pub over : (n base most : ℕ) → 0 < base → most / base < n → most < n * base
-over n base most h l = div-lt-iff-lt-mul h .0 l
+pub over : (n base most top : ℕ) → 1 < base → top ≡ most / base → top < n → most < n * base
+over n base most top b e l = div-lt-iff-lt-mul (le-of-lt b) .0 (subst (λ (q : ℕ). q < n) e l)
 
 -- a number that was read is at most `most`
 pub within : (base most n k : ℕ) (s : List ℕ) → numberOn base most n s ≡ number.Is k → k ≤ most

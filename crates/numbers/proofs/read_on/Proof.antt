@@ -2,6 +2,7 @@
 -- the product or the sum is made.
 use mathlib.Core.Path.{_≡_, refl, sym, ap, _∙_}
 use Prim.Native.Nat.{ℕ, _≤_, _+_, _-_, _*_, _/_}
+use native.Mathlib.Nat.{le-of-lt, lt-of-lt-of-le, le-add-right}
 use native.Mathlib.Omega.{arith}
 use borrow.Author.Needs.{needs}
 use lib.ListN.{length, drop}
@@ -36,21 +37,22 @@ returns-2 c = let l = c .before .before .before .before .loop in let a = c .befo
     sym (not-digit (a .base) (a .most) (a .from) (a .s .now) (l .i) (omega arith) (omega (arith, c .before .digit .ensures)) (l .inv .3))
 
 returns-3 : tie.Need-returns-3 Inv-loop μ-loop
-returns-3 c = let l = c .before .before .before .before .before .loop in let a = c .before .before .before .before .before .before .before .before .args in
-    sym (too-large (a .base) (a .most) (a .from) (l .n) (a .s .now) (l .i) (omega arith) (omega arith) (l .inv .4) (omega (arith, over (l .n) (a .base) (a .most) (omega arith) (omega arith))))
+returns-3 c = let l = c .before .before .before .before .before .loop in let s = c .before .before .before .before .before .before .before .before in let a = s .args in
+    sym (too-large (a .base) (a .most) (a .from) (l .n) (a .s .now) (l .i) (le-of-lt (s .pre .0)) (omega arith) (l .inv .4)
+    (lt-of-lt-of-le (over (l .n) (a .base) (a .most) _ (s .pre .0) (l .inv .2) (c .if3 .taken)) (le-add-right _ _)))
 
 mul-m : tie.Need-mul-m Inv-loop μ-loop
-mul-m c = let l = c .before .before .before .before .before .loop in let a = c .before .before .before .before .before .before .before .before .args in omega (arith, under (l .n) (a .base) (a .most) (omega arith) (omega arith))
+mul-m c = let l = c .before .before .before .before .before .loop in let s = c .before .before .before .before .before .before .before .before in omega (arith, under (l .n) (s .args .base) (s .args .most) _ (s .pre .0) (l .inv .2) (c .if3 .left))
 
 sub-if4 : tie.Need-sub-if4 Inv-loop μ-loop
-sub-if4 c = let l = c .before .before .before .before .before .loop in let a = c .before .before .before .before .before .before .before .before .args in omega (arith, under (l .n) (a .base) (a .most) (omega arith) (omega arith))
+sub-if4 c = let l = c .before .before .before .before .before .loop in let s = c .before .before .before .before .before .before .before .before in under (l .n) (s .args .base) (s .args .most) _ (s .pre .0) (l .inv .2) (c .if3 .left)
 
 returns-4 : tie.Need-returns-4 Inv-loop μ-loop
 returns-4 c = let l = c .before .before .before .before .before .before .loop in let a = c .before .before .before .before .before .before .before .before .before .args in
-    sym (too-large (a .base) (a .most) (a .from) (l .n) (a .s .now) (l .i) (omega arith) (omega arith) (l .inv .4) (omega (arith, c .before .before .before .digit .ensures)))
+    sym (too-large (a .base) (a .most) (a .from) (l .n) (a .s .now) (l .i) (le-of-lt (c .before .before .before .before .before .before .before .before .before .pre .0)) (omega arith) (l .inv .4) (omega (arith, c .before .before .before .digit .ensures)))
 
 add-n : tie.Need-add-n Inv-loop μ-loop
-add-n c = let l = c .before .before .before .before .before .before .loop in let a = c .before .before .before .before .before .before .before .before .before .args in omega (arith, under (l .n) (a .base) (a .most) (omega arith) (omega arith))
+add-n c = let l = c .before .before .before .before .before .before .loop in let s = c .before .before .before .before .before .before .before .before .before in omega (arith, under (l .n) (s .args .base) (s .args .most) _ (s .pre .0) (l .inv .2) (c .before .if3 .left))
 
 add-i : tie.Need-add-i Inv-loop μ-loop
 add-i c = search needs
@@ -59,9 +61,9 @@ loop-less : tie.Need-loop-less Inv-loop μ-loop
 loop-less c = omega arith
 
 loop-again : tie.Need-loop-again Inv-loop μ-loop
-loop-again c = let l = c .before .before .before .before .before .before .loop in let a = c .before .before .before .before .before .before .before .before .before .args in
+loop-again c = let l = c .before .before .before .before .before .before .loop in let s = c .before .before .before .before .before .before .before .before .before in let a = s .args in
     let d = c .before .before .before .digit .ensures in
-    let u = under (l .n) (a .base) (a .most) (omega arith) (omega arith) in (
+    let u = under (l .n) (a .base) (a .most) _ (s .pre .0) (l .inv .2) (c .before .if3 .left) in (
       omega arith,
       omega arith,
       l .inv .2,

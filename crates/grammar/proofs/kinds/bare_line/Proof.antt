@@ -4,17 +4,11 @@ use borrow.Author.Needs.{needs}
 use Rattle.grammar.proofs.kinds.bare_line.Statement.{statement}
 use Rattle.grammar.proofs.kinds.bare_line.Tie as tie
 
-ended-requires : tie.Need-ended-requires
-ended-requires c κs = search needs
-
-told-requires : tie.Need-told-requires
-told-requires c κs = search needs
-
-say-requires : tie.Need-say-requires
-say-requires c κs = search needs
+closed-requires : tie.Need-closed-requires
+closed-requires c κs = search needs
 
 returns : tie.Need-returns
 returns c = search (bare-line, needs)
 
 pub bare-line-spec : {M : Type 1} → statement M
-bare-line-spec = tie.close (tie.spec ended-requires told-requires say-requires returns)
+bare-line-spec = tie.close (tie.spec closed-requires returns)

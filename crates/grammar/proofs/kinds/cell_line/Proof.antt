@@ -10,14 +10,8 @@ small-at-requires c κs = search needs
 small-at-requires-2 : tie.Need-small-at-requires-2
 small-at-requires-2 c κs = search needs
 
-ended-requires : tie.Need-ended-requires
-ended-requires c κs = search needs
-
-told-requires : tie.Need-told-requires
-told-requires c κs = search needs
-
-say-requires : tie.Need-say-requires
-say-requires c κs = search needs
+closed-requires : tie.Need-closed-requires
+closed-requires c κs = search needs
 
 returns : tie.Need-returns
 returns c = search (cell-line, needs)
@@ -28,7 +22,5 @@ cell-line-spec =
     (tie.spec
     small-at-requires
     small-at-requires-2
-    ended-requires
-    told-requires
-    say-requires
+    closed-requires
     returns)

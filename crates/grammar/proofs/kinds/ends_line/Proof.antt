@@ -13,14 +13,8 @@ link-at-requires-2 c κs = search needs
 link-at-requires-3 : tie.Need-link-at-requires-3
 link-at-requires-3 c κs = search needs
 
-ended-requires : tie.Need-ended-requires
-ended-requires c κs = search needs
-
-told-requires : tie.Need-told-requires
-told-requires c κs = search needs
-
-say-requires : tie.Need-say-requires
-say-requires c κs = search needs
+closed-requires : tie.Need-closed-requires
+closed-requires c κs = search needs
 
 returns : tie.Need-returns
 returns c = search (ends-line, needs)
@@ -32,7 +26,5 @@ ends-line-spec =
     link-at-requires
     link-at-requires-2
     link-at-requires-3
-    ended-requires
-    told-requires
-    say-requires
+    closed-requires
     returns)

@@ -7,18 +7,12 @@ use Rattle.grammar.proofs.kinds.place_line.Tie as tie
 four-at-requires : tie.Need-four-at-requires
 four-at-requires c κs = search needs
 
-ended-requires : tie.Need-ended-requires
-ended-requires c κs = search needs
-
-told-requires : tie.Need-told-requires
-told-requires c κs = search needs
-
-say-requires : tie.Need-say-requires
-say-requires c κs = search needs
+closed-requires : tie.Need-closed-requires
+closed-requires c κs = search needs
 
 returns : tie.Need-returns
 returns c = search (place-line, needs)
 
 pub place-line-spec : {M : Type 1} → statement M
 place-line-spec =
-    tie.close (tie.spec four-at-requires ended-requires told-requires say-requires returns)
+    tie.close (tie.spec four-at-requires closed-requires returns)

@@ -7,18 +7,12 @@ use Rattle.grammar.proofs.kinds.watch_line.Tie as tie
 small-at-requires : tie.Need-small-at-requires
 small-at-requires c κs = search needs
 
-ended-requires : tie.Need-ended-requires
-ended-requires c κs = search needs
-
-told-requires : tie.Need-told-requires
-told-requires c κs = search needs
-
-say-requires : tie.Need-say-requires
-say-requires c κs = search needs
+closed-requires : tie.Need-closed-requires
+closed-requires c κs = search needs
 
 returns : tie.Need-returns
 returns c = search (watch-line, needs)
 
 pub watch-line-spec : {M : Type 1} → statement M
 watch-line-spec =
-    tie.close (tie.spec small-at-requires ended-requires told-requires say-requires returns)
+    tie.close (tie.spec small-at-requires closed-requires returns)
