@@ -149,6 +149,9 @@ module _ (ys : List Row) (s c : Cursor) (n : ℕ) (ks : List ℕ) (t : Bool) (lo
   scan-ends h q = sym (stops ys c (more-is false h)) ∙ q
 
 -- QUESTIONS 1 TO 3
+pub start-key : (s : Cursor) (n at : ℕ) (b : Bool) (k : Key) (ks : List ℕ) → s ≡ startOf n at b k → keyOf ks ≡ k .bytes → s .key ≡ keyOf ks
+start-key s n at b k ks e f = ap (λ (c : Cursor). c .key) e ∙ sym f
+
 pub look-not : (xs : List Row) (m n : ℕ) (e : Ends) (k : Key) (t u : Bool) (r : Look) → n ≡ length xs → t ≡ sizesOf n m → u ≡ not t → u ≡ true → r ≡ L.No 1 → Looked xs m e k r
 look-not xs m n e k t u r long a b c d = looks-not xs m e k t r (a ∙ ap (λ (j : ℕ). sizesOf j m) long) (not-true t (sym b ∙ c)) d
 
