@@ -211,8 +211,8 @@ fn check_row(rows: &[u64], l: Look) -> Answer
     if bad {
         return watch::no_to(l);
     }
-    let row = found(rows, l);
-    watch::check_answer(row)
+    let held = found(rows, l);
+    watch::check_answer(held)
 }
 
 // What is held of the key's site. This marks nothing.
