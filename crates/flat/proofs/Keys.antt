@@ -12,11 +12,11 @@ use Rattle.flat.proofs.Runs.{runs4, over-all}
 
 -- EIGHT BYTES
 -- n elements from the i-th on
-abbrev firsts : ℕ → List ℕ → ℕ → List ℕ
+abbrev pub firsts : ℕ → List ℕ → ℕ → List ℕ
 firsts zero k i = []
 firsts (suc n) k i = getD k i 0 ∷ firsts n k (suc i)
 
-first-is : (n : ℕ) (k : List ℕ) (i : ℕ) → i + n ≤ length k → take n (drop i k) ≡ firsts n k i
+pub first-is : (n : ℕ) (k : List ℕ) (i : ℕ) → i + n ≤ length k → take n (drop i k) ≡ firsts n k i
 first-is zero k i h = refl
 first-is (suc n) k i h = ap (take (suc n)) (drop-cons k i 0 (omega arith)) ∙ ap (λ (l : List ℕ). getD k i 0 ∷ l) (first-is n k (suc i) (omega arith))
 

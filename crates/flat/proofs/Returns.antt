@@ -29,12 +29,12 @@ use Rattle.receiver.specs.declared.Judged.the-variants.{With, Never}
 use Rattle.rows.specs.declared.Row.{Row}
 use Rattle.rows.specs.Read.{fits}
 use Rattle.flat.specs.Words.{most32, most64, low32, keyWords, keyOf, maybeFits, altitudeWords, altitudeOf, siteWords, siteOf, siteFits, idWords, idOf, lastWord, lastOf, byWords, byOf, verdictWords, runOf, verdictOf, runFits, verdictFits, heardWords, closedOf, rowFits, heardOf, rowOf, junk, openedOf}
-use Rattle.flat.specs.Ranges.{AltitudeIn, SiteIn, IdIn, ByIn, VerdictIn, RowIn}
+use Rattle.flat.specs.Ranges.{AltitudeIn, SiteIn, IdIn, ByIn, VerdictIn, HeardIn, RowIn}
 use Rattle.flat.proofs.Runs.{here, there, past}
-use Rattle.flat.proofs.Keys.{key-words, key-back}
+use Rattle.flat.proofs.Keys.{key-back}
 use Rattle.flat.proofs.Closing.{site-words, id-words, verdict-words}
 
-low-is : (n : ℕ) → n ≤ most32 → low32 n ≡ n
+pub low-is : (n : ℕ) → n ≤ most32 → low32 n ≡ n
 unfolding most32
 low-is n h = mod-eq-of-lt (omega arith)
 
@@ -118,7 +118,7 @@ verdict-fits (With v) q h =
     simp (append-assoc (byWords b) (m ∷ []) q, last-fits (v .last), le-leb (v .«wrong_run») 255 (h .0), le-leb (v .«other_run») 255 (h .1 .0), by-fits b (m ∷ q) (h .1 .1), by-past b m q, moved-fits (v .moved))
 verdict-fits Never q h = refl
 
--- A ROW: what is left of its words from each part on
+-- A ROW: what is left of its words from each part on, whatever its key is
 abbrev links : Row → List ℕ
 links r = r .prev ∷ r .next ∷ []
 
@@ -134,48 +134,48 @@ evenOn r = idWords (r .part .heard .even) ++ oddOn r
 abbrev siteOn : Row → List ℕ
 siteOn r = siteWords (r .part .heard .site) ++ (r .part .heard .generation ∷ evenOn r)
 
-module _ (r : Row) where
-  heard-on : heardWords (r .part .heard) ++ verdictOn r ≡ siteOn r
+-- the range of all but the key
+pub record RestIn (r : Row) : Type 0 where
+  pub heard : HeardIn (r .part .heard)
+  pub verdict : VerdictIn (r .part .verdict)
+  pub prev : r .prev ≤ most32
+  pub next : r .next ≤ most32
+
+module _ (words : List ℕ) (r : Row) (rest : drop 4 words ≡ heardWords (r .part .heard) ++ verdictOn r) where
+  from4 : drop 4 words ≡ siteOn r
   unfolding heardWords
-  heard-on =
+  from4 =
       let h = r .part .heard in
-      append-assoc (siteWords (h .site)) (h .generation ∷ (idWords (h .even) ++ idWords (h .odd))) (verdictOn r)
+      rest ∙ append-assoc (siteWords (h .site)) (h .generation ∷ (idWords (h .even) ++ idWords (h .odd))) (verdictOn r)
       ∙ ap (λ (l : List ℕ). siteWords (h .site) ++ (h .generation ∷ l)) (append-assoc (idWords (h .even)) (idWords (h .odd)) (verdictOn r))
 
-  closed-is : closedOf r ≡ keyWords (r .key) ++ siteOn r
-  unfolding closedOf
-  closed-is = ap (λ (l : List ℕ). keyWords (r .key) ++ l) heard-on
+  from9 : drop 9 words ≡ r .part .heard .generation ∷ evenOn r
+  from9 = past words (siteWords (r .part .heard .site)) (r .part .heard .generation ∷ evenOn r) 4 5 from4 (site-words (r .part .heard .site))
 
-  from4 : drop 4 (closedOf r) ≡ siteOn r
-  from4 = past (closedOf r) (keyWords (r .key)) (siteOn r) 0 4 closed-is (key-words (r .key))
+  from10 : drop 10 words ≡ evenOn r
+  from10 = past words (r .part .heard .generation ∷ []) (evenOn r) 9 1 from9 refl
 
-  from9 : drop 9 (closedOf r) ≡ r .part .heard .generation ∷ evenOn r
-  from9 = past (closedOf r) (siteWords (r .part .heard .site)) (r .part .heard .generation ∷ evenOn r) 4 5 from4 (site-words (r .part .heard .site))
+  from12 : drop 12 words ≡ oddOn r
+  from12 = past words (idWords (r .part .heard .even)) (oddOn r) 10 2 from10 (id-words (r .part .heard .even))
 
-  from10 : drop 10 (closedOf r) ≡ evenOn r
-  from10 = past (closedOf r) (r .part .heard .generation ∷ []) (evenOn r) 9 1 from9 refl
+  from14 : drop 14 words ≡ verdictOn r
+  from14 = past words (idWords (r .part .heard .odd)) (verdictOn r) 12 2 from12 (id-words (r .part .heard .odd))
 
-  from12 : drop 12 (closedOf r) ≡ oddOn r
-  from12 = past (closedOf r) (idWords (r .part .heard .even)) (oddOn r) 10 2 from10 (id-words (r .part .heard .even))
+  from21 : drop 21 words ≡ links r
+  from21 = past words (verdictWords (r .part .verdict)) (links r) 14 7 from14 (verdict-words (r .part .verdict))
 
-  from14 : drop 14 (closedOf r) ≡ verdictOn r
-  from14 = past (closedOf r) (idWords (r .part .heard .odd)) (verdictOn r) 12 2 from12 (id-words (r .part .heard .odd))
+  at9 : getD words 9 0 ≡ r .part .heard .generation
+  at9 = sym (here words 9) ∙ ap (λ (l : List ℕ). getD l 0 0) from9
 
-  from21 : drop 21 (closedOf r) ≡ links r
-  from21 = past (closedOf r) (verdictWords (r .part .verdict)) (links r) 14 7 from14 (verdict-words (r .part .verdict))
+  at21 : getD words 21 0 ≡ r .prev
+  at21 = sym (here words 21) ∙ ap (λ (l : List ℕ). getD l 0 0) from21
 
-  at9 : getD (closedOf r) 9 0 ≡ r .part .heard .generation
-  at9 = sym (here (closedOf r) 9) ∙ ap (λ (l : List ℕ). getD l 0 0) from9
+  at22 : getD words 22 0 ≡ r .next
+  at22 = sym (there words 21 1) ∙ ap (λ (l : List ℕ). getD l 1 0) from21
 
-  at21 : getD (closedOf r) 21 0 ≡ r .prev
-  at21 = sym (here (closedOf r) 21) ∙ ap (λ (l : List ℕ). getD l 0 0) from21
-
-  at22 : getD (closedOf r) 22 0 ≡ r .next
-  at22 = sym (there (closedOf r) 21 1) ∙ ap (λ (l : List ℕ). getD l 1 0) from21
-
-  closed-fits : RowIn r → rowFits (closedOf r) ≡ true
+  words-fit : RestIn r → rowFits words ≡ true
   unfolding rowFits
-  closed-fits h = simp (
+  words-fit h = simp (
     at9,
     at21,
     at22,
@@ -192,7 +192,7 @@ module _ (r : Row) where
     verdict-fits (r .part .verdict) (links r) (h .verdict),
   )
 
-  heard-back : RowIn r → heardOf (closedOf r) ≡ r .part .heard
+  heard-back : RestIn r → heardOf words ≡ r .part .heard
   heard-back h = simp (
     at9,
     from4,
@@ -204,19 +204,26 @@ module _ (r : Row) where
     id-back (r .part .heard .odd) (verdictOn r),
   )
 
-  row-back : RowIn r → rowOf (closedOf r) ≡ r
-  unfolding rowOf
-  row-back h =
-      let k : keyOf (closedOf r) ≡ r .key = ap keyOf closed-is ∙ key-back (r .key) (siteOn r) (h .key) in
-      let v : verdictOf (drop 14 (closedOf r)) ≡ r .part .verdict = ap verdictOf from14 ∙ verdict-back (r .part .verdict) (links r) (h .verdict) in
-      let p : low32 (getD (closedOf r) 21 0) ≡ r .prev = ap low32 at21 ∙ low-is (r .prev) (h .prev) in
-      let n : low32 (getD (closedOf r) 22 0) ≡ r .next = ap low32 at22 ∙ low-is (r .next) (h .next) in
-      simp (k, heard-back h, v, p, n)
+  -- of the key, whatever its words are
+  pub opened-words : (k : List ℕ) → RestIn r → keyOf words ≡ k → openedOf words ≡ record { key = k; part = r .part; prev = r .prev; next = r .next }
+  unfolding openedOf rowOf
+  opened-words k h e =
+      let v : verdictOf (drop 14 words) ≡ r .part .verdict = ap verdictOf from14 ∙ verdict-back (r .part .verdict) (links r) (h .verdict) in
+      let p : low32 (getD words 21 0) ≡ r .prev = ap low32 at21 ∙ low-is (r .prev) (h .prev) in
+      let n : low32 (getD words 22 0) ≡ r .next = ap low32 at22 ∙ low-is (r .next) (h .next) in
+      simp (words-fit h, e, heard-back h, v, p, n)
 
 -- THE LAW OF RETURN
+closed-rest : (r : Row) → drop 4 (closedOf r) ≡ heardWords (r .part .heard) ++ verdictOn r
+unfolding closedOf keyWords
+closed-rest r = refl
+
+closed-key : (r : Row) → RowIn r → keyOf (closedOf r) ≡ r .key
+unfolding closedOf
+closed-key r h = key-back (r .key) (heardWords (r .part .heard) ++ verdictOn r) (h .key)
+
 pub opened-closed : (r : Row) → RowIn r → openedOf (closedOf r) ≡ r
-unfolding openedOf
-opened-closed r h = simp (closed-fits r h, row-back r h)
+opened-closed r h = opened-words (closedOf r) r (closed-rest r) (r .key) (record { heard = h .heard; verdict = h .verdict; prev = h .prev; next = h .next }) (closed-key r h)
 
 -- question 2 refuses a row whose words are out of range
 pub junk-unfit : fits (junk .part) ≡ false

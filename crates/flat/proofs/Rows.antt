@@ -13,7 +13,7 @@ use lib.Seq.{take-at, drop-at, take-append-le, drop-append-le, take-take, drop-d
 use mir.Syntax.{w32, w64}
 use mir.Val.{Fits}
 use Rattle.rows.specs.declared.Row.{Row}
-use Rattle.rows.specs.Links.{blank, withNext, withPrev}
+use Rattle.rows.specs.Links.{blank}
 use Rattle.flat.specs.Words.{wordsOfRow, openedOf, closedOf}
 use Rattle.flat.specs.Ranges.{RowIn}
 use Rattle.flat.specs.Table.{rowsFrom, rowsOf}
@@ -136,61 +136,62 @@ room-for ws n i e h = omega (arith, e, mul-le-mul-right wordsOfRow h)
 whole : (ws : List ℕ) (i : ℕ) → Has ws i → length ws ≡ length ws / wordsOfRow * wordsOfRow
 whole ws i h = sym (div-add-mod' (length ws) wordsOfRow) ∙ omega (arith, h .even)
 
+-- a number that is a row's, by the test
 module _ (ws : List ℕ) (i : ℕ) (t : Bool) (e : t ≡ leb (length (rowsOf ws)) i) where
   pub is-in : t ≡ false → i < length (rowsOf ws)
   is-in f = leb-false (length (rowsOf ws)) i (sym e ∙ f)
 
-  pub room : t ≡ false → wordsOfRow * i + wordsOfRow ≤ length ws
-  room f = let h = has ws i (is-in f) in room-for ws (length ws / wordsOfRow) i (whole ws i h) (h .within)
-
   pub not-got : (r : Row) → t ≡ true → r ≡ blank → r ≡ getD (rowsOf ws) i blank
   not-got r f g = g ∙ sym (List·getD-eq-default (rowsOf ws) blank {n = i} (leb-true (length (rowsOf ws)) i (sym e ∙ f)))
-
-  pub got : (a z : ℕ) (r : Row) → t ≡ false → a ≡ wordsOfRow * i → z ≡ wordsOfRow * i + wordsOfRow → r ≡ openedOf (take (z - a) (drop a ws)) → r ≡ getD (rowsOf ws) i blank
-  got a z r f ea ez g =
-      let h = has ws i (is-in f) in
-      let w : z - a ≡ wordsOfRow = omega (arith, ea, ez) in
-      g ∙ ap (λ (n : ℕ). openedOf (take n (drop a ws))) w ∙ ap (λ (n : ℕ). openedOf (take wordsOfRow (drop n ws))) ea
-      ∙ sym (ap (λ (l : List Row). getD l i blank) (h .all) ∙ row-at (length ws / wordsOfRow) i ws (h .within))
 
   pub not-put : (r : Row) → t ≡ true → rowsOf ws ≡ set (rowsOf ws) i r
   not-put r f = sym (set-out (rowsOf ws) i r (leb-true (length (rowsOf ws)) i (sym e ∙ f)))
 
-  module _ (a z : ℕ) (f : t ≡ false) (ea : a ≡ wordsOfRow * i) (ez : z ≡ wordsOfRow * i + wordsOfRow) where
-    pub end-in : z ≤ length ws
-    end-in = omega (arith, ez, room f)
+-- ONE ROW'S WORDS, from the a-th to before the z-th
+module _ (i a z : ℕ) (ea : a ≡ wordsOfRow * i) (ez : z ≡ wordsOfRow * i + wordsOfRow) (ys : List ℕ) where
+  pub part-long : length ys ≡ z - a → length ys ≡ 23
+  part-long h = omega (arith, h, ea, ez, wide-is)
 
-    pub part-long : (ys : List ℕ) → length ys ≡ z - a → length ys ≡ 23
-    part-long ys h = omega (arith, h, ea, ez, wide-is)
+  pub part-wide : length ys ≡ z - a → 23 ≤ length ys
+  part-wide h = omega (arith, part-long h)
 
-    pub part-wide : (ys : List ℕ) → length ys ≡ z - a → 23 ≤ length ys
-    part-wide ys h = omega (arith, part-long ys h)
+module _ (ws : List ℕ) (i a z : ℕ) (inside : i < length (rowsOf ws)) (ea : a ≡ wordsOfRow * i) (ez : z ≡ wordsOfRow * i + wordsOfRow) where
+  wide : z - a ≡ wordsOfRow
+  wide = omega (arith, ea, ez)
 
-    pub put-long : (ys : List ℕ) (r : Row) → ys ≡ closedOf r → length (take a ws ++ (ys ++ drop (z - a) (drop a ws))) ≡ length ws
-    put-long ys r g =
+  pub words-are : take (z - a) (drop a ws) ≡ take wordsOfRow (drop (wordsOfRow * i) ws)
+  words-are = ap (λ (n : ℕ). take n (drop a ws)) wide ∙ ap (λ (n : ℕ). take wordsOfRow (drop n ws)) ea
+
+  pub got : (r : Row) → r ≡ openedOf (take (z - a) (drop a ws)) → r ≡ getD (rowsOf ws) i blank
+  got r g =
+      let h = has ws i inside in
+      g ∙ ap openedOf words-are ∙ sym (ap (λ (l : List Row). getD l i blank) (h .all) ∙ row-at (length ws / wordsOfRow) i ws (h .within))
+
+  pub end-in : z ≤ length ws
+  end-in = let h = has ws i inside in omega (arith, ez, room-for ws (length ws / wordsOfRow) i (whole ws i h) (h .within))
+
+  -- other words in their place
+  module _ (ys : List ℕ) (long : length ys ≡ 23) where
+    abbrev after : List ℕ
+    after = take a ws ++ (ys ++ drop (z - a) (drop a ws))
+
+    put-long : length after ≡ length ws
+    put-long =
         length-append (take a ws) (ys ++ drop (z - a) (drop a ws))
-        ∙ omega (arith, end-in, ea, ez, wide-is, length-take a ws, length-append ys (drop (z - a) (drop a ws)), length-drop (z - a) (drop a ws), length-drop a ws, ap length g, row-words r)
+        ∙ omega (arith, end-in, ea, ez, wide-is, length-take a ws, length-append ys (drop (z - a) (drop a ws)), length-drop (z - a) (drop a ws), length-drop a ws, long)
 
-    pub puts : (ys : List ℕ) (r : Row) → ys ≡ closedOf r → RowIn r → rowsOf (take a ws ++ (ys ++ drop (z - a) (drop a ws))) ≡ set (rowsOf ws) i r
+    pub stored : rowsOf after ≡ set (rowsOf ws) i (openedOf ys)
     unfolding rowsOf
-    puts ys r g k =
-        let h = has ws i (is-in f) in
+    stored =
+        let h = has ws i inside in
         let n = length ws / wordsOfRow in
-        let l = take a ws ++ (ys ++ drop (z - a) (drop a ws)) in
-        let long : length ys ≡ wordsOfRow = ap length g ∙ row-words r ∙ wide-is in
-        let w : z - a ≡ wordsOfRow = omega (arith, ea, ez) in
-        let same : l ≡ with-row ws i ys = ap (λ (m : ℕ). take a ws ++ (ys ++ drop m (drop a ws))) w ∙ ap (λ (m : ℕ). take m ws ++ (ys ++ drop wordsOfRow (drop m ws))) ea in
-        let even : eqb (length l % wordsOfRow) 0 ≡ true = ap (λ (m : ℕ). eqb (m % wordsOfRow) 0) (put-long ys r g) ∙ eq-eqb (length ws % wordsOfRow) 0 (h .even) in
-        ap (λ (b : Bool). cond b (rowsFrom (length l / wordsOfRow) l) []) even
-        ∙ ap (λ (m : ℕ). rowsFrom (m / wordsOfRow) l) (put-long ys r g)
+        let same : after ≡ with-row ws i ys = ap (λ (m : ℕ). take a ws ++ (ys ++ drop m (drop a ws))) wide ∙ ap (λ (m : ℕ). take m ws ++ (ys ++ drop wordsOfRow (drop m ws))) ea in
+        let even : eqb (length after % wordsOfRow) 0 ≡ true = ap (λ (m : ℕ). eqb (m % wordsOfRow) 0) put-long ∙ eq-eqb (length ws % wordsOfRow) 0 (h .even) in
+        ap (λ (b : Bool). cond b (rowsFrom (length after / wordsOfRow) after) []) even
+        ∙ ap (λ (m : ℕ). rowsFrom (m / wordsOfRow) after) put-long
         ∙ ap (rowsFrom n) same
-        ∙ row-put n i ws ys (h .within) (omega (arith, whole ws i h)) long
-        ∙ ap (λ (x : Row). set (rowsFrom n ws) i x) (ap openedOf g ∙ opened-closed r k)
-        ∙ ap (λ (rs : List Row). set rs i r) (sym (h .all))
+        ∙ row-put n i ws ys (h .within) (omega (arith, whole ws i h)) (long ∙ wide-is)
+        ∙ ap (λ (rs : List Row). set rs i (openedOf ys)) (sym (h .all))
 
--- links
-pub set-next-is : (rs zs : List Row) (i n : ℕ) (r x : Row) → r ≡ getD rs i blank → x ≡ withNext r n → zs ≡ set rs i x → zs ≡ set rs i (withNext (getD rs i blank) n)
-set-next-is rs zs i n r x e f g = g ∙ ap (set rs i) (f ∙ ap (λ (y : Row). withNext y n) e)
-
-pub set-prev-is : (rs zs : List Row) (i n : ℕ) (r x : Row) → r ≡ getD rs i blank → x ≡ withPrev r n → zs ≡ set rs i x → zs ≡ set rs i (withPrev (getD rs i blank) n)
-set-prev-is rs zs i n r x e f g = g ∙ ap (set rs i) (f ∙ ap (λ (y : Row). withPrev y n) e)
+  pub puts : (ys : List ℕ) (r : Row) → ys ≡ closedOf r → RowIn r → rowsOf (take a ws ++ (ys ++ drop (z - a) (drop a ws))) ≡ set (rowsOf ws) i r
+  puts ys r g k = stored ys (ap length g ∙ row-words r) ∙ ap (set (rowsOf ws) i) (ap openedOf g ∙ opened-closed r k)

@@ -10,7 +10,7 @@ ghost use lib.Seq.{sets};
 ghost use lib.Ieee.{binary64, toBits, fits};
 ghost use mir.Syntax.{w32};
 ghost use mir.Val.{ofZ, toZ, SFits};
-ghost use Rattle.rows.specs.Links.{blank, nexted, preved};
+ghost use Rattle.rows.specs.Links.{blank};
 ghost use Rattle.flat.specs.Words as row;
 ghost use Rattle.flat.specs.Words.{low32, wordOf, bytesOf, eight, keyWords, keyOf, maybeFits, altitudeWords, altitudeOf, siteWords, siteOf, siteFits, idWords, idOf, lastWord, lastOf, byWords, byOf, verdictWords, runOf, verdictOf, runFits, verdictFits, wordsOfRow, closedOf, rowFits, rowOf, openedOf};
 ghost use Rattle.flat.specs.Ranges.{Bytes, KeyIn, AltitudeIn, SiteIn, IdIn, ByIn, RunIn, VerdictIn, HeardIn, RowIn};
@@ -54,7 +54,7 @@ fn low8(w: u64) -> u8
     (w % 256) as u8
 }
 
-fn low32(w: u64) -> u32
+pub fn low32(w: u64) -> u32
     ensures { λ r. ⌜ r ≡ low32 w ⌝ }
 {
     (w % 4294967296) as u32
@@ -67,7 +67,7 @@ fn wide8(x: u8) -> u64
     x as u64
 }
 
-fn wide32(x: u32) -> u64
+pub fn wide32(x: u32) -> u64
     ensures { λ r. ⌜ (r ≡ x) × (x ≤ row.most32) ⌝ }
 {
     x as u64
@@ -122,7 +122,7 @@ fn put1(words: &mut [u64], at: usize, a: u64)
     words[at] = a;
 }
 
-fn put2(words: &mut [u64], at: usize, a: u64, b: u64)
+pub fn put2(words: &mut [u64], at: usize, a: u64, b: u64)
     requires { ⌜ at + 2 ≤ length (now words) ⌝ }
     ensures { λ _. ⌜ now (words .exit) ≡ sets (now (words .entry)) at (a ∷ b ∷ []) ⌝ }
 {
@@ -286,7 +286,7 @@ fn site_fits(words: &[u64], at: usize) -> bool
     false
 }
 
-fn site_at(words: &[u64], at: usize) -> Claimed
+pub fn site_at(words: &[u64], at: usize) -> Claimed
     requires { ⌜ at + 5 ≤ length (now words) ⌝ }
     ensures { λ r. ⌜ r ≡ siteOf (drop at (now (words .entry))) ⌝ }
 {
@@ -381,7 +381,7 @@ fn put_run(words: &mut [u64], at: usize, v: Verdict)
     put1(words, at + 6, moved);
 }
 
-fn put_verdict(words: &mut [u64], at: usize, j: Judged)
+pub fn put_verdict(words: &mut [u64], at: usize, j: Judged)
     requires { ⌜ at + 7 ≤ length (now words) ⌝ }
     ensures { λ _. ⌜ (now (words .exit) ≡ sets (now (words .entry)) at (verdictWords j)) × VerdictIn j ⌝ }
 {
@@ -444,7 +444,7 @@ fn run_at(words: &[u64], at: usize) -> Verdict
     }
 }
 
-fn verdict_at(words: &[u64], at: usize) -> Judged
+pub fn verdict_at(words: &[u64], at: usize) -> Judged
     requires { ⌜ at + 7 ≤ length (now words) ⌝ }
     ensures { λ r. ⌜ r ≡ verdictOf (drop at (now (words .entry))) ⌝ }
 {
@@ -456,7 +456,7 @@ fn verdict_at(words: &[u64], at: usize) -> Judged
 
 // ---- a row
 
-fn put_heard(words: &mut [u64], heard: Heard)
+pub fn put_heard(words: &mut [u64], heard: Heard)
     requires { ⌜ 23 ≤ length (now words) ⌝ }
     ensures { λ _. ⌜ (now (words .exit) ≡ sets (now (words .entry)) 4 (row.heardWords heard)) × HeardIn heard ⌝ }
 {
@@ -497,7 +497,7 @@ fn links_fit(words: &[u64]) -> bool
     rows::both(g, rows::both(p, n))
 }
 
-fn row_fits(words: &[u64]) -> bool
+pub fn row_fits(words: &[u64]) -> bool
     requires { ⌜ 23 ≤ length (now words) ⌝ }
     ensures { λ r. ⌜ r ≡ rowFits (now (words .entry)) ⌝ }
 {
@@ -589,19 +589,19 @@ pub fn count(rows: &[u64]) -> usize
     if n % w == 0 { n / w } else { 0 }
 }
 
-fn outside(rows: &[u64], at: u32) -> bool
+pub fn outside(rows: &[u64], at: u32) -> bool
     ensures { λ r. ⌜ r ≡ leb (length (rowsOf (now (rows .entry)))) at ⌝ }
 {
     count(rows) <= (at as usize)
 }
 
-fn start_of(at: u32) -> usize
+pub fn start_of(at: u32) -> usize
     ensures { λ r. ⌜ r ≡ wordsOfRow * at ⌝ }
 {
     23 * (at as usize)
 }
 
-fn end_of(at: u32) -> usize
+pub fn end_of(at: u32) -> usize
     ensures { λ r. ⌜ r ≡ wordsOfRow * at + wordsOfRow ⌝ }
 {
     23 * (at as usize) + 23
@@ -631,18 +631,4 @@ pub fn put(rows: &mut [u64], at: u32, row: Row)
     let a = start_of(at);
     let z = end_of(at);
     close(&mut rows[a..z], row);
-}
-
-pub fn set_next(rows: &mut [u64], at: u32, n: u32)
-    ensures { λ _. ⌜ (rowsOf (now (rows .exit)) ≡ nexted (rowsOf (now (rows .entry))) at n) × (length (now (rows .exit)) ≡ length (now (rows .entry))) ⌝ }
-{
-    let row = get(rows, at);
-    put(rows, at, rows::with_next(row, n));
-}
-
-pub fn set_prev(rows: &mut [u64], at: u32, n: u32)
-    ensures { λ _. ⌜ (rowsOf (now (rows .exit)) ≡ preved (rowsOf (now (rows .entry))) at n) × (length (now (rows .exit)) ≡ length (now (rows .entry))) ⌝ }
-{
-    let row = get(rows, at);
-    put(rows, at, rows::with_prev(row, n));
 }

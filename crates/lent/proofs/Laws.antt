@@ -1,14 +1,16 @@
 -- One law for each way out of a function over the lent words: the equations of its calls, put together, are the step on the rows. Facts on lists of
 -- rows alone; the laws of the calls themselves are crate `moves`'s.
 use mathlib.Core.Path.{_≡_, refl, sym, ap, ap₂, _∙_, subst}
-use Prim.Native.Nat.{ℕ, _<_}
-use mathlib.Core.Bool.{Bool, true, false, not}
+use mathlib.Core.Logic.{_≢_}
+use Prim.Native.Nat.{ℕ, _-_, _<_}
+use mathlib.Core.Bool.{Bool, true, false, cond, not, _&&_}
 use mathlib.Core.List.{List, []}
 use lib.Dec.{eqb}
 use lib.ListN.{length, getD, set}
-use borrow.Author.Tests.{not-true, not-false}
+use borrow.Author.Tests.{not-true, not-false, eqb-true}
+use Rattle.table.specs.Machine.{same}
 use Rattle.table.specs.Rows.{NONE}
-use Rattle.table.proofs.Tests.{clash}
+use Rattle.table.proofs.Tests.{clash, and-1, and-2}
 use Rattle.sites.specs.declared.Claimed.{Claimed}
 use Rattle.receiver.specs.Heard.{siteFits}
 use Rattle.receiver.specs.declared.Part.{Part}
@@ -24,11 +26,16 @@ use Rattle.rows.specs.declared.Seat.{Seat}
 use Rattle.rows.specs.declared.Look.{Look}
 use Rattle.rows.specs.Links.{blank, unmade, withNext, withPrev, withLinks, withPart, madeRow, withFree, nexted, preved, outEnds, unlinkedRows, unlinkedEnds, linkedRows, linkedEnds, releasedRows, releasedEnds, touchedRows, touchedEnds, markedRows, markedEnds, partedRows, takenRows, takenEnds, roomRows, roomEnds, enteredRows, enteredEnds, keptSeat, madeSeat, seatOf, seatedRows}
 use Rattle.rows.specs.declared.Look.the-variants as L
-use Rattle.rows.specs.Read.{Looked}
-use Rattle.rows.specs.Search.{sizesOf, moreOf, stepOf, scanned, startOf, lookOf, isNo, isUnfit, atOf, numberOf}
+use Rattle.rows.specs.Read.{fits, Looked}
+use Rattle.rows.specs.Search.{sizesOf, backFits, firstFound, moreOf, stepOf, scanned, startOf, lookOf, isNo, isUnfit, atOf, numberOf}
+use Rattle.rows.proofs.Laws.{steps}
 use Rattle.rows.proofs.Looks.{looks, looks-not}
 use Rattle.rows.proofs.Scans.{goes-on, stops}
 use Rattle.rows.proofs.Tables.{room-no, room-yes, seat-made, seat-kept}
+use Rattle.flat.specs.Words.{keyOf}
+use Rattle.glances.specs.declared.Links.{Links}
+use Rattle.glances.specs.declared.Glance.{Glance}
+use Rattle.glances.specs.Glances.{linksOf, glanceOf}
 use Rattle.moves.specs.declared.Word.the-variants as Wd
 use Rattle.moves.specs.declared.Answer.{Answer}
 use Rattle.moves.specs.declared.Move.{Move}
@@ -39,17 +46,16 @@ use Rattle.moves.proofs.Entries.{judge-none, judge-kept, remove-none, remove-ke
 use Rattle.lent.specs.Refusal.{isRefusal, Untouched}
 
 -- STEPS ON THE CHAINS
-pub unlink-ends : (xs : List Row) (e r : Ends) (i p n : ℕ) (row : Row) → row ≡ getD xs i blank → p ≡ row .prev → n ≡ row .next → r ≡ outEnds e p n → r ≡ unlinkedEnds xs e i
-unlink-ends xs e r i p n row a b c d = d ∙ ap₂ {C = Ends} (λ x y. outEnds e x y) (b ∙ ap (λ (z : Row). z .prev) a) (c ∙ ap (λ (z : Row). z .next) a)
+module _ (xs : List Row) (i : ℕ) (l : Links) (seen : l ≡ linksOf (getD xs i blank)) where
+  pub unlink-ends : (e r : Ends) → r ≡ outEnds e (l .prev) (l .next) → r ≡ unlinkedEnds xs e i
+  unlink-ends e r d = d ∙ ap (λ (k : Links). outEnds e (k .prev) (k .next)) seen
 
-pub unlink-rows : (xs ys zs : List Row) (i p n : ℕ) (row : Row) → row ≡ getD xs i blank → p ≡ row .prev → n ≡ row .next → ys ≡ nexted xs p n → zs ≡ preved ys n p → zs ≡ unlinkedRows xs i
-unlink-rows xs ys zs i p n row a b c d f =
-    f ∙ ap (λ (z : List Row). preved z n p) d ∙ ap₂ {C = List Row} (λ x y. preved (nexted xs x y) y x) (b ∙ ap (λ (z : Row). z .prev) a) (c ∙ ap (λ (z : Row). z .next) a)
+  pub unlink-rows : (ys zs : List Row) → ys ≡ nexted xs (l .prev) (l .next) → zs ≡ preved ys (l .next) (l .prev) → zs ≡ unlinkedRows xs i
+  unlink-rows ys zs d f = f ∙ ap (λ (z : List Row). preved z (l .next) (l .prev)) d ∙ ap (λ (k : Links). preved (nexted xs (k .prev) (k .next)) (k .next) (k .prev)) seen
 
-pub link-rows : (xs ys zs : List Row) (e : Ends) (i t n : ℕ) (row x : Row) → t ≡ e .tail → row ≡ getD xs i blank → n ≡ NONE → x ≡ withLinks row t n → ys ≡ set xs i x → zs ≡ nexted ys t i → zs ≡ linkedRows xs e i
-link-rows xs ys zs e i t n row x a b c d f g =
-    let y : x ≡ withLinks (getD xs i blank) (e .tail) NONE = d ∙ ap₂ {C = Row} (λ u v. withLinks u v n) b a ∙ ap (withLinks (getD xs i blank) (e .tail)) c in
-    g ∙ ap₂ {C = List Row} (λ u v. nexted u v i) (f ∙ ap (set xs i) y) a
+pub link-rows : (xs ys zs : List Row) (e : Ends) (i t n : ℕ) → t ≡ e .tail → n ≡ NONE → ys ≡ set xs i (withLinks (getD xs i blank) t n) → zs ≡ nexted ys t i → zs ≡ linkedRows xs e i
+link-rows xs ys zs e i t n a c f g =
+    g ∙ ap₂ {C = List Row} (λ u v. nexted u v i) (f ∙ ap₂ {C = List Row} (λ u v. set xs i (withLinks (getD xs i blank) u v)) a c) a
 
 pub release-ends : (xs : List Row) (e d r : Ends) (i : ℕ) → d ≡ unlinkedEnds xs e i → r ≡ withFree d i → r ≡ releasedEnds xs e i
 release-ends xs e d r i a b = b ∙ ap (λ (x : Ends). withFree x i) a
@@ -63,14 +69,11 @@ touch-ends xs e d r i a b = b ∙ ap (λ (x : Ends). linkedEnds x i) a
 pub touch-rows : (xs ys zs : List Row) (e d : Ends) (i : ℕ) → d ≡ unlinkedEnds xs e i → ys ≡ unlinkedRows xs i → zs ≡ linkedRows ys d i → zs ≡ touchedRows xs e i
 touch-rows xs ys zs e d i a b c = c ∙ ap₂ {C = List Row} (λ u v. linkedRows u v i) b a
 
-parted : (xs ys : List Row) (i : ℕ) (p : Part) (row x : Row) → row ≡ getD xs i blank → x ≡ withPart row p → ys ≡ set xs i x → ys ≡ partedRows xs i p
-parted xs ys i p row x a b c = c ∙ ap (set xs i) (b ∙ ap (λ (u : Row). withPart u p) a)
+pub mark-ends : (xs ys : List Row) (e r : Ends) (i : ℕ) (p : Part) → ys ≡ partedRows xs i p → r ≡ touchedEnds ys e i → r ≡ markedEnds xs e i p
+mark-ends xs ys e r i p c d = d ∙ ap (λ (u : List Row). touchedEnds u e i) c
 
-pub mark-ends : (xs ys : List Row) (e r : Ends) (i : ℕ) (p : Part) (row x : Row) → row ≡ getD xs i blank → x ≡ withPart row p → ys ≡ set xs i x → r ≡ touchedEnds ys e i → r ≡ markedEnds xs e i p
-mark-ends xs ys e r i p row x a b c d = d ∙ ap (λ (u : List Row). touchedEnds u e i) (parted xs ys i p row x a b c)
-
-pub mark-rows : (xs ys zs : List Row) (e : Ends) (i : ℕ) (p : Part) (row x : Row) → row ≡ getD xs i blank → x ≡ withPart row p → ys ≡ set xs i x → zs ≡ touchedRows ys e i → zs ≡ markedRows xs e i p
-mark-rows xs ys zs e i p row x a b c d = d ∙ ap (λ (u : List Row). touchedRows u e i) (parted xs ys i p row x a b c)
+pub mark-rows : (xs ys zs : List Row) (e : Ends) (i : ℕ) (p : Part) → ys ≡ partedRows xs i p → zs ≡ touchedRows ys e i → zs ≡ markedRows xs e i p
+mark-rows xs ys zs e i p c d = d ∙ ap (λ (u : List Row). touchedRows u e i) c
 
 pub take-ends : (xs : List Row) (e d r : Ends) (i n : ℕ) (old : Row) → i ≡ e .free → old ≡ getD xs i blank → n ≡ old .next → d ≡ withFree e n → r ≡ linkedEnds d i → r ≡ takenEnds xs e
 take-ends xs e d r i n old a b c f g =
@@ -92,16 +95,52 @@ pub test-is : (t s b : Bool) → t ≡ s → t ≡ b → s ≡ b
 test-is t s b p q = sym p ∙ q
 
 -- THE SCAN
-module _ (ys : List Row) (s c : Cursor) (n : ℕ) (t : Bool) (long : n ≡ length ys) (test : t ≡ moreOf c n) where
+not-not : (b : Bool) → not (not b) ≡ b
+not-not true = refl
+not-not false = refl
+
+fits-by : (b x t u : Bool) → t ≡ (b && not x) → u ≡ not t → u ≡ cond b x true
+fits-by true x t u e f = f ∙ ap not e ∙ not-not x
+fits-by false x t u e f = f ∙ ap not e
+
+pub found-now : (f at : ℕ) (s t u : Bool) → t ≡ eqb f NONE → u ≡ (t && s) → u ≡ true → at ≡ firstFound f at s
+found-now f at s t u et eu h =
+    let b = sym eu ∙ h in
+    sym (ap₂ {C = ℕ} (λ (x y : Bool). cond x (cond y at NONE) f) (sym et ∙ and-1 t s b) (and-2 t s b))
+
+pub found-before : (f at : ℕ) (s t u : Bool) → t ≡ eqb f NONE → u ≡ (t && s) → u ≡ false → f ≡ firstFound f at s
+found-before f at s true u et eu h = eqb-true f NONE (sym et) ∙ sym (ap₂ {C = ℕ} (λ (x y : Bool). cond x (cond y at NONE) f) (sym et) (sym eu ∙ h))
+found-before f at s false u et eu h = sym (ap (λ (x : Bool). cond x (cond s at NONE) f) (sym et))
+
+pub step-seen : (s : Cursor) (g : Glance) (b f u : Bool) (d : ℕ) → s .left ≢ 0 → b ≡ (s .back && not (eqb (g .prev) (s .prev))) → f ≡ not b → u ≡ (s .sound && g .sound) → d ≡ firstFound (s .found) (s .at) (g .same)
+    → (row : Row) → g ≡ glanceOf (s .key) row → record { at = g .next; prev = s .at; left = s .left - 1; back = s .back; fits = f; sound = u; found = d; key = s .key } ≡ stepOf s row
+step-seen s g b f u d h eb ef eu ed row e =
+    let fit : f ≡ backFits (s .back) (row .prev) (s .prev) = fits-by (s .back) (eqb (g .prev) (s .prev)) b f eb ef ∙ ap (λ (x : Glance). backFits (s .back) (x .prev) (s .prev)) e in
+    let part : u ≡ (s .sound && fits (row .part)) = eu ∙ ap (λ (x : Glance). s .sound && x .sound) e in
+    let key : d ≡ firstFound (s .found) (s .at) (same (s .key) (row .key)) = ed ∙ ap (λ (x : Glance). firstFound (s .found) (s .at) (x .same)) e in
+    ap (λ (x : Glance). record { at = x .next; prev = s .at; left = s .left - 1; back = s .back; fits = f; sound = u; found = d; key = s .key }) e
+    ∙ steps s row f u (same (s .key) (row .key)) (fits (row .part)) d h fit refl part refl key
+
+key-stays : (s : Cursor) (row : Row) → stepOf s row .key ≡ s .key
+key-stays s row = by (eqb (s .left) 0)
+  where
+    by : (b : Bool) → cond b s (record { at = row .next; prev = s .at; left = s .left - 1; back = s .back; fits = backFits (s .back) (row .prev) (s .prev); sound = s .sound && fits (row .part); found = firstFound (s .found) (s .at) (same (s .key) (row .key)); key = s .key }) .key ≡ s .key
+    by true = refl
+    by false = refl
+
+module _ (ys : List Row) (s c : Cursor) (n : ℕ) (ks : List ℕ) (t : Bool) (long : n ≡ length ys) (test : t ≡ moreOf c n) where
   more-is : (b : Bool) → t ≡ b → moreOf c (length ys) ≡ b
   more-is b h = ap (moreOf c) (sym long) ∙ sym test ∙ h
 
-  module _ (h : t ≡ true) (at : ℕ) (row : Row) (d : Cursor) (a : at ≡ c .at) (r : row ≡ getD ys at blank) (e : d ≡ stepOf c row) where
+  module _ (h : t ≡ true) (k : c .key ≡ keyOf ks) (at : ℕ) (g : Glance) (d : Cursor) (a : at ≡ c .at) (r : g ≡ glanceOf (keyOf ks) (getD ys at blank)) (e : (row : Row) → g ≡ glanceOf (c .key) row → d ≡ stepOf c row) where
     next-is : d ≡ stepOf c (getD ys (c .at) blank)
-    next-is = e ∙ ap (stepOf c) (r ∙ ap (λ (i : ℕ). getD ys i blank) a)
+    next-is = e (getD ys (c .at) blank) (r ∙ ap₂ {C = Glance} (λ x i. glanceOf x (getD ys i blank)) (sym k) a)
 
     pub scan-goes : scanned ys c ≡ scanned ys s → scanned ys d ≡ scanned ys s
     scan-goes q = ap (scanned ys) next-is ∙ sym (goes-on ys c (more-is true h) .same) ∙ q
+
+    pub scan-key : d .key ≡ keyOf ks
+    scan-key = ap (λ (x : Cursor). x .key) next-is ∙ key-stays c (getD ys (c .at) blank) ∙ k
 
     pub scan-less : d .left < c .left
     scan-less = subst (λ (x : Cursor). x .left < c .left) (sym next-is) (goes-on ys c (more-is true h) .less)
@@ -110,6 +149,9 @@ module _ (ys : List Row) (s c : Cursor) (n : ℕ) (t : Bool) (long : n ≡ lengt
   scan-ends h q = sym (stops ys c (more-is false h)) ∙ q
 
 -- QUESTIONS 1 TO 3
+pub start-key : (s : Cursor) (n at : ℕ) (b : Bool) (k : Key) (ks : List ℕ) → s ≡ startOf n at b k → keyOf ks ≡ k .bytes → s .key ≡ keyOf ks
+start-key s n at b k ks e f = ap (λ (c : Cursor). c .key) e ∙ sym f
+
 pub look-not : (xs : List Row) (m n : ℕ) (e : Ends) (k : Key) (t u : Bool) (r : Look) → n ≡ length xs → t ≡ sizesOf n m → u ≡ not t → u ≡ true → r ≡ L.No 1 → Looked xs m e k r
 look-not xs m n e k t u r long a b c d = looks-not xs m e k t r (a ∙ ap (λ (j : ℕ). sizesOf j m) long) (not-true t (sym b ∙ c)) d
 

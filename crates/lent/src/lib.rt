@@ -8,14 +8,14 @@ ghost use Rattle.receiver.specs.Heard.{siteFits};
 ghost use Rattle.receiver.specs.Calls as calls;
 ghost use Rattle.rows.specs.Read.{watchIs, Looked};
 ghost use Rattle.rows.specs.Links.{blank, unlinkedRows, unlinkedEnds, linkedRows, linkedEnds, releasedRows, releasedEnds, touchedRows, touchedEnds, markedRows, markedEnds, roomRows, roomEnds, takenRows, takenEnds, enteredRows, enteredEnds, seatOf, seatedRows, freshFrom};
-ghost use Rattle.rows.specs.Search.{scanned, isNo, isUnfit, atOf};
+ghost use Rattle.rows.specs.Search.{firstFound, stepOf, scanned, isNo, isUnfit, atOf};
+ghost use Rattle.flat.specs.Words.{keyOf};
 ghost use Rattle.flat.specs.Table.{rowsOf};
+ghost use Rattle.glances.specs.Glances.{glanceOf};
 ghost use Rattle.moves.specs.Answers.{outcome};
 ghost use Rattle.moves.specs.Moves.{ClaimedRow, HeardRow, judgedAs, judgedRows, checkedAs, removeMove, removedRows};
 ghost use Rattle.lent.specs.Refusal.{Untouched};
-use moves::Answer;
-use moves::Count;
-use moves::Move;
+use glances::Glance;
 use near_field::Judgment;
 use receiver::Heard;
 use receiver::Part;
@@ -27,6 +27,9 @@ use rows::Look;
 use rows::Row;
 use rows::Seat;
 use sites::Claimed;
+use moves::Answer;
+use moves::Count;
+use moves::Move;
 
 // ---- steps on the chains
 
@@ -34,12 +37,10 @@ use sites::Claimed;
 fn unlink(rows: &mut [u64], e: Ends, i: u32) -> Ends
     ensures { λ r. ⌜ (r ≡ unlinkedEnds (rowsOf (now (rows .entry))) e i) × (rowsOf (now (rows .exit)) ≡ unlinkedRows (rowsOf (now (rows .entry))) i) ⌝ }
 {
-    let row = flat::get(rows, i);
-    let p = rows::prev_of(row);
-    let n = rows::next_of(row);
-    flat::set_next(rows, p, n);
-    flat::set_prev(rows, n, p);
-    rows::out_ends(e, p, n)
+    let l = glances::links_at(rows, i);
+    glances::set_next(rows, l.prev, l.next);
+    glances::set_prev(rows, l.next, l.prev);
+    rows::out_ends(e, l.prev, l.next)
 }
 
 // Puts row i last in the used chain: the most recently used.
@@ -47,9 +48,8 @@ fn link_last(rows: &mut [u64], e: Ends, i: u32) -> Ends
     ensures { λ r. ⌜ (r ≡ linkedEnds e i) × (rowsOf (now (rows .exit)) ≡ linkedRows (rowsOf (now (rows .entry))) e i) ⌝ }
 {
     let t = rows::tail_of(e);
-    let row = flat::get(rows, i);
-    flat::put(rows, i, rows::with_links(row, t, rows::no_row()));
-    flat::set_next(rows, t, i);
+    glances::set_links(rows, i, t, rows::no_row());
+    glances::set_next(rows, t, i);
     rows::linked_ends(e, i)
 }
 
@@ -74,9 +74,7 @@ fn touch(rows: &mut [u64], e: Ends, i: u32) -> Ends
 fn mark(rows: &mut [u64], e: Ends, i: u32, part: Part) -> Ends
     ensures { λ r. ⌜ (r ≡ markedEnds (rowsOf (now (rows .entry))) e i part) × (rowsOf (now (rows .exit)) ≡ markedRows (rowsOf (now (rows .entry))) e i part) ⌝ }
 {
-    let row = flat::get(rows, i);
-    let after = rows::with_part(row, part);
-    flat::put(rows, i, after);
+    glances::set_part(rows, i, part);
     touch(rows, e, i)
 }
 
@@ -133,14 +131,48 @@ fn place(s: Cursor) -> u32
     s.at
 }
 
-fn scan(rows: &[u64], n: usize, s: Cursor) -> Cursor
-    requires { ⌜ n ≡ length (rowsOf (now rows)) ⌝ }
+// The first row with the key: the one found before, or this one.
+fn first_found(found: u32, at: u32, same: bool) -> u32
+    ensures { λ r. ⌜ r ≡ firstFound found at same ⌝ }
+{
+    let first = rows::both(rows::is_none(found), same);
+    if first { at } else { found }
+}
+
+// A step along a chain, by what was seen of the row.
+fn step_by(s: Cursor, g: Glance) -> Cursor
+    ensures { λ r. ⌜ ((row : Row) → g ≡ glanceOf (s .key) row → r ≡ stepOf s row) ⌝ }
+{
+    let left = s.left;
+    if left == 0 {
+        return s;
+    }
+    let k = s.key;
+    let broken = rows::both(s.back, g.prev != s.prev);
+    let fits = rows::negated(broken);
+    let sound = rows::both(s.sound, g.sound);
+    let found = first_found(s.found, s.at, g.same);
+    Cursor {
+        at: g.next,
+        prev: s.at,
+        left: left - 1,
+        back: s.back,
+        fits: fits,
+        sound: sound,
+        found: found,
+        key: k,
+    }
+}
+
+// The scan for the key of these four words.
+fn scan(rows: &[u64], n: usize, s: Cursor, key: &[u64; 4]) -> Cursor
+    requires { ⌜ (n ≡ length (rowsOf (now rows))) × (s .key ≡ keyOf (now key)) ⌝ }
     ensures { λ r. ⌜ r ≡ scanned (rowsOf (now (rows .entry))) s ⌝ }
 {
     let mut c = s;
     while rows::more(c, n) {
-        let row = flat::get(rows, place(c));
-        c = rows::step(c, row);
+        let g = glances::look_at(rows, place(c), key);
+        c = step_by(c, g);
     }
     c
 }
@@ -155,8 +187,10 @@ fn look_up(rows: &[u64], m: usize, e: Ends, key: Key) -> Look
     if bad {
         return rows::no_one();
     }
-    let used = scan(rows, n, rows::used_start(n, e, key));
-    let free = scan(rows, n, rows::free_start(n, e, key));
+    let bytes = key.bytes;
+    let k = glances::words_of(bytes);
+    let used = scan(rows, n, rows::used_start(n, e, key), &k);
+    let free = scan(rows, n, rows::free_start(n, e, key), &k);
     rows::look_of(n, e, used, free)
 }
 
@@ -177,8 +211,8 @@ fn check_row(rows: &[u64], l: Look) -> Answer
     if bad {
         return moves::no_to(l);
     }
-    let row = found(rows, l);
-    moves::check_answer(row)
+    let held = found(rows, l);
+    moves::check_answer(held)
 }
 
 // What is held of the key's site. This marks nothing.

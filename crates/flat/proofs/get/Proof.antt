@@ -1,5 +1,5 @@
 -- `flat::get` meets its contract: each way out is a law that is cited below, at what the code found.
-use Rattle.flat.proofs.Rows.{not-got, start-fits, end-in, part-wide, got}
+use Rattle.flat.proofs.Rows.{not-got, start-fits, is-in, end-in, part-wide, got}
 use borrow.Author.Needs.{needs}
 use Rattle.flat.proofs.get.Statement.{statement}
 use Rattle.flat.proofs.get.Tie as tie
@@ -29,13 +29,13 @@ part-open-start : tie.Need-part-open-start
 part-open-start c = search needs
 
 part-open-end : tie.Need-part-open-end
-part-open-end c = search (end-in, needs)
+part-open-end c = search (end-in, is-in, needs)
 
 open-requires : tie.Need-open-requires
 open-requires c κs = search (part-wide, needs)
 
 returns-2 : tie.Need-returns-2
-returns-2 c = search (got, needs)
+returns-2 c = search (got, is-in, needs)
 
 pub get-spec : {M : Type 1} → statement M
 get-spec =

@@ -1,5 +1,5 @@
 -- `flat::put` meets its contract: each way out is a law that is cited below, at what the code found.
-use Rattle.flat.proofs.Rows.{not-put, start-fits, end-in, part-long, puts}
+use Rattle.flat.proofs.Rows.{not-put, start-fits, is-in, end-in, part-long, puts}
 use borrow.Author.Needs.{needs}
 use Rattle.flat.proofs.put.Statement.{statement}
 use Rattle.flat.proofs.put.Tie as tie
@@ -29,7 +29,7 @@ part-close-start : tie.Need-part-close-start
 part-close-start c = search needs
 
 part-close-end : tie.Need-part-close-end
-part-close-end c = search (end-in, needs)
+part-close-end c = search (end-in, is-in, needs)
 
 close-requires : tie.Need-close-requires
 close-requires c κs = search (part-long, needs)
@@ -38,7 +38,7 @@ same-length-2 : tie.Need-same-length-2
 same-length-2 c = search needs
 
 returns-2 : tie.Need-returns-2
-returns-2 c = search (puts, needs)
+returns-2 c = search (puts, is-in, needs)
 
 pub put-spec : {M : Type 1} → statement M
 put-spec =

@@ -1,4 +1,4 @@
--- `lent::link_last` meets its contract: each way out is a law that is cited below, at what the calls came to.
+-- `lent::link_last` meets its contract: each way out is a law that is cited below, at what the code found.
 use Rattle.lent.proofs.Laws.{link-rows}
 use borrow.Author.Needs.{needs}
 use Rattle.lent.proofs.link_last.Statement.{statement}
@@ -7,17 +7,11 @@ use Rattle.lent.proofs.link_last.Tie as tie
 tail-of-requires : tie.Need-tail-of-requires
 tail-of-requires c κs = search needs
 
-get-requires : tie.Need-get-requires
-get-requires c κs = search needs
-
 no-row-requires : tie.Need-no-row-requires
 no-row-requires c κs = search needs
 
-with-links-requires : tie.Need-with-links-requires
-with-links-requires c κs = search needs
-
-put-requires : tie.Need-put-requires
-put-requires c κs = search needs
+set-links-requires : tie.Need-set-links-requires
+set-links-requires c κs = search needs
 
 set-next-requires : tie.Need-set-next-requires
 set-next-requires c κs = search needs
@@ -36,10 +30,8 @@ link-last-spec =
     tie.close
     (tie.spec
     tail-of-requires
-    get-requires
     no-row-requires
-    with-links-requires
-    put-requires
+    set-links-requires
     set-next-requires
     linked-ends-requires
     same-length

@@ -1,17 +1,11 @@
--- `lent::unlink` meets its contract: each way out is a law that is cited below, at what the calls came to.
+-- `lent::unlink` meets its contract: each way out is a law that is cited below, at what the code found.
 use Rattle.lent.proofs.Laws.{unlink-ends, unlink-rows}
 use borrow.Author.Needs.{needs}
 use Rattle.lent.proofs.unlink.Statement.{statement}
 use Rattle.lent.proofs.unlink.Tie as tie
 
-get-requires : tie.Need-get-requires
-get-requires c κs = search needs
-
-prev-of-requires : tie.Need-prev-of-requires
-prev-of-requires c κs = search needs
-
-next-of-requires : tie.Need-next-of-requires
-next-of-requires c κs = search needs
+links-at-requires : tie.Need-links-at-requires
+links-at-requires c κs = search needs
 
 set-next-requires : tie.Need-set-next-requires
 set-next-requires c κs = search needs
@@ -32,9 +26,7 @@ pub unlink-spec : {M : Type 1} → statement M
 unlink-spec =
     tie.close
     (tie.spec
-    get-requires
-    prev-of-requires
-    next-of-requires
+    links-at-requires
     set-next-requires
     set-prev-requires
     out-ends-requires

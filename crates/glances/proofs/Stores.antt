@@ -1,0 +1,104 @@
+-- Stores into a row's 23 words that fit: links in place of links, a part in place of a part. The row that is read after them differs in that alone.
+use mathlib.Core.Path.{_≡_, refl, sym, ap, ap₂, _∙_}
+use Prim.Native.Nat.{ℕ, _+_, _≤_}
+use native.Mathlib.Omega.{arith}
+use mathlib.Core.Bool.{Bool, true, cond, _&&_}
+use mathlib.Core.List.{List, [], _∷_, _++_, append-assoc}
+use borrow.Author.Tests.{le-leb, leb-true}
+use lib.Dec.{leb}
+use lib.ListN.{length, getD, take, drop, length-append}
+use lib.Seq.{sets, sets-eq, take-all}
+use Rattle.table.proofs.Tests.{and-1, and-2, and-both}
+use Rattle.receiver.specs.declared.Part.{Part}
+use Rattle.rows.specs.declared.Row.{Row}
+use Rattle.rows.specs.Links.{withLinks, withPart}
+use Rattle.flat.specs.Words.{most32, most64, keyOf, maybeFits, altitudeOf, siteOf, siteFits, idOf, byOf, runOf, verdictOf, runFits, verdictFits, heardWords, verdictWords, rowFits, rowOf, junk, openedOf}
+use Rattle.flat.specs.Ranges.{HeardIn, VerdictIn}
+use Rattle.flat.proofs.Runs.{runs2}
+use Rattle.flat.proofs.Keys.{firsts, first-is}
+use Rattle.flat.proofs.Closing.{heard-words, verdict-words}
+use Rattle.flat.proofs.Returns.{low-is, opened-words}
+use Rattle.glances.proofs.Places.{opened-fit}
+
+-- 23 words, one by one
+abbrev each : List ℕ → List ℕ
+each ws = firsts 23 ws 0
+
+each-is : (ws : List ℕ) → length ws ≡ 23 → ws ≡ each ws
+each-is ws e = sym (take-all 23 ws (omega (arith, e))) ∙ first-is 23 ws 0 (omega (arith, e))
+
+-- the tests of a row: generation and links, and the parts
+abbrev low : List ℕ → Bool
+low l = leb (getD l 9 0) most32 && (leb (getD l 21 0) most32 && leb (getD l 22 0) most32)
+
+abbrev rest : List ℕ → Bool
+rest l = siteFits (drop 4 l) && (maybeFits most64 (drop 10 l) && (maybeFits most64 (drop 12 l) && verdictFits (drop 14 l)))
+
+module _ (ws : List ℕ) (long : length ws ≡ 23) (fit : rowFits ws ≡ true) where
+  fit-each : rowFits (each ws) ≡ true
+  fit-each = ap rowFits (sym (each-is ws long)) ∙ fit
+
+  -- LINKS
+  module _ (p n : ℕ) (hp : p ≤ most32) (hn : n ≤ most32) where
+    abbrev linked : List ℕ
+    linked = sets (each ws) 21 (p ∷ n ∷ [])
+
+    linked-fit : rowFits linked ≡ true
+    unfolding rowFits siteFits maybeFits verdictFits runFits
+    linked-fit =
+        and-both (low linked) (rest linked)
+        (and-both (leb (getD ws 9 0) most32) (leb p most32 && leb n most32) (and-1 (leb (getD ws 9 0) most32) (leb (getD ws 21 0) most32 && leb (getD ws 22 0) most32) (and-1 (low (each ws)) (rest (each ws)) fit-each)) (and-both (leb p most32) (leb n most32) (le-leb p most32 hp) (le-leb n most32 hn)))
+        (and-2 (low (each ws)) (rest (each ws)) fit-each)
+
+    linked-row : rowOf linked ≡ withLinks (rowOf (each ws)) p n
+    unfolding rowOf keyOf siteOf altitudeOf idOf verdictOf runOf byOf
+    linked-row = ap₂ {C = Row} (λ x y. withLinks (rowOf (each ws)) x y) (low-is p hp) (low-is n hn)
+
+    pub links-stored : (a b : ℕ) (z : List ℕ) → a ≡ p → b ≡ n → z ≡ sets ws 21 (a ∷ b ∷ []) → openedOf z ≡ withLinks (openedOf ws) p n
+    links-stored a b z ea eb e =
+        ap openedOf (e ∙ ap₂ {C = List ℕ} (λ x y. sets ws 21 (x ∷ y ∷ [])) ea eb ∙ ap (λ (l : List ℕ). sets l 21 (p ∷ n ∷ [])) (each-is ws long)) ∙ opened-fit linked linked-fit ∙ linked-row
+        ∙ ap (λ (r : Row). withLinks r p n) (sym (opened-fit (each ws) fit-each) ∙ ap openedOf (sym (each-is ws long)))
+
+  -- A PART
+  module _ (part : Part) (heard : HeardIn (part .heard)) (verdict : VerdictIn (part .verdict)) where
+    abbrev partWords : List ℕ
+    partWords = heardWords (part .heard) ++ verdictWords (part .verdict)
+
+    part-words : length partWords ≡ 17
+    part-words = length-append (heardWords (part .heard)) (verdictWords (part .verdict)) ∙ omega (arith, heard-words (part .heard), verdict-words (part .verdict))
+
+    abbrev parted : List ℕ
+    parted = getD ws 0 0 ∷ getD ws 1 0 ∷ getD ws 2 0 ∷ getD ws 3 0 ∷ (partWords ++ (getD ws 21 0 ∷ getD ws 22 0 ∷ []))
+
+    abbrev row : Row
+    row = record { key = keyOf (each ws); part = part; prev = getD ws 21 0; next = getD ws 22 0 }
+
+    parted-is : sets ws 4 partWords ≡ parted
+    parted-is =
+        ap (λ (l : List ℕ). sets l 4 partWords) (each-is ws long) ∙ sets-eq partWords (each ws) 4 (omega (arith, part-words))
+        ∙ ap (λ (n : ℕ). take 4 (each ws) ++ (partWords ++ drop (4 + n) (each ws))) part-words
+
+    small : (leb (getD ws 21 0) most32 && leb (getD ws 22 0) most32) ≡ true
+    unfolding rowFits
+    small = and-2 (leb (getD ws 9 0) most32) (leb (getD ws 21 0) most32 && leb (getD ws 22 0) most32) (and-1 (low ws) (rest ws) fit)
+
+    small-prev : getD ws 21 0 ≤ most32
+    small-prev = leb-true (getD ws 21 0) most32 (and-1 (leb (getD ws 21 0) most32) (leb (getD ws 22 0) most32) small)
+
+    small-next : getD ws 22 0 ≤ most32
+    small-next = leb-true (getD ws 22 0) most32 (and-2 (leb (getD ws 21 0) most32) (leb (getD ws 22 0) most32) small)
+
+    parted-row : openedOf parted ≡ row
+    unfolding keyOf
+    parted-row =
+        opened-words parted row (append-assoc (heardWords (part .heard)) (verdictWords (part .verdict)) (getD ws 21 0 ∷ getD ws 22 0 ∷ [])) (keyOf (each ws))
+        (record { heard = heard; verdict = verdict; prev = small-prev; next = small-next }) refl
+
+    row-is : row ≡ withPart (rowOf (each ws)) part
+    unfolding rowOf
+    row-is = ap₂ {C = Row} (λ x y. record { key = keyOf (each ws); part = part; prev = x; next = y }) (sym (low-is (getD ws 21 0) (small-prev))) (sym (low-is (getD ws 22 0) (small-next)))
+
+    pub part-stored : (y z : List ℕ) → y ≡ sets ws 4 (heardWords (part .heard)) → z ≡ sets y 14 (verdictWords (part .verdict)) → openedOf z ≡ withPart (openedOf ws) part
+    part-stored y z ey ez =
+        ap openedOf (runs2 ws (heardWords (part .heard)) (verdictWords (part .verdict)) y z 4 14 (omega (arith, heard-words (part .heard))) ey ez ∙ parted-is) ∙ parted-row ∙ row-is
+        ∙ ap (λ (r : Row). withPart r part) (sym (opened-fit (each ws) fit-each) ∙ ap openedOf (sym (each-is ws long)))

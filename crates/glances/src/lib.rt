@@ -1,0 +1,215 @@
+// One row of the lent words without opening it: its links, and what the search for a key asks of it, read from the words that hold them; and stores of
+// its links or its part alone. A row with a word out of range is opened whole, and stored whole.
+ghost use mathlib.Core.Path.{_≡_};
+ghost use mathlib.Core.Bool.{true, _&&_};
+ghost use Prim.Native.Nat.{_≤_};
+ghost use lib.Dec.{eqb};
+ghost use lib.ListN.{length, set, getD};
+ghost use Rattle.table.specs.Machine.{same};
+ghost use Rattle.rows.specs.Read.{fits};
+ghost use Rattle.rows.specs.Links.{blank, withLinks, withPart, nexted, preved, partedRows};
+ghost use Rattle.flat.specs.Words.{most64, keyOf, rowFits, rowOf, openedOf};
+ghost use Rattle.flat.specs.Table.{rowsOf};
+ghost use Rattle.glances.specs.Glances.{fitsAt, linksOf, glanceOf};
+use receiver::Part;
+use rows::Row;
+
+// A row's links.
+pub struct Links {
+    pub prev: u32,
+    pub next: u32,
+}
+
+// What a step along a chain asks of a row: its links, whether its part is sound, and whether it has the key.
+pub struct Glance {
+    pub prev: u32,
+    pub next: u32,
+    pub sound: bool,
+    pub same: bool,
+}
+
+// Is this a row's number, and is every word of the row within its range?
+fn fits_at(rows: &[u64], at: u32) -> bool
+    ensures { λ r. ⌜ r ≡ fitsAt (now (rows .entry)) at ⌝ }
+{
+    let bad = flat::outside(rows, at);
+    if bad {
+        return false;
+    }
+    let a = flat::start_of(at);
+    let z = flat::end_of(at);
+    flat::row_fits(&rows[a..z])
+}
+
+fn links_of(words: &[u64]) -> Links
+    requires { ⌜ 23 ≤ length (now words) ⌝ }
+    ensures { λ r. ⌜ r ≡ linksOf (rowOf (now (words .entry))) ⌝ }
+{
+    Links {
+        prev: flat::low32(words[21]),
+        next: flat::low32(words[22]),
+    }
+}
+
+fn no_links() -> Links
+    ensures { λ r. ⌜ r ≡ linksOf blank ⌝ }
+{
+    let none = rows::no_row();
+    Links {
+        prev: none,
+        next: none,
+    }
+}
+
+pub fn links_at(rows: &[u64], at: u32) -> Links
+    ensures { λ r. ⌜ r ≡ linksOf (getD (rowsOf (now (rows .entry))) at blank) ⌝ }
+{
+    let good = fits_at(rows, at);
+    if good {
+        let a = flat::start_of(at);
+        let z = flat::end_of(at);
+        return links_of(&rows[a..z]);
+    }
+    no_links()
+}
+
+fn same_word(w: u64, k: u64) -> bool
+    ensures { λ r. ⌜ (r ≡ eqb k w) × ((k ≤ most64) × (w ≤ most64)) ⌝ }
+{
+    k == w
+}
+
+fn same_words(words: &[u64], key: &[u64; 4]) -> bool
+    requires { ⌜ 4 ≤ length (now words) ⌝ }
+    ensures { λ r. ⌜ r ≡ same (keyOf (now (key .entry))) (keyOf (now (words .entry))) ⌝ }
+{
+    let a = same_word(words[0], key[0]);
+    let b = same_word(words[1], key[1]);
+    let c = same_word(words[2], key[2]);
+    let d = same_word(words[3], key[3]);
+    rows::both(a, rows::both(b, rows::both(c, d)))
+}
+
+fn sound_at(words: &[u64]) -> bool
+    requires { ⌜ 23 ≤ length (now words) ⌝ }
+    ensures { λ r. ⌜ r ≡ fits (rowOf (now (words .entry)) .part) ⌝ }
+{
+    let site = flat::site_at(words, 4);
+    let verdict = flat::verdict_at(words, 14);
+    rows::both(receiver::site::fits(site), receiver::run::fits(verdict))
+}
+
+// The four words of a key.
+pub fn words_of(key: [u8; 32]) -> [u64; 4]
+    ensures { λ r. ⌜ keyOf r ≡ key ⌝ }
+{
+    let a = flat::key_word(key, 0);
+    let b = flat::key_word(key, 8);
+    let c = flat::key_word(key, 16);
+    let d = flat::key_word(key, 24);
+    [a, b, c, d]
+}
+
+fn glance_of(words: &[u64], key: &[u64; 4]) -> Glance
+    requires { ⌜ 23 ≤ length (now words) ⌝ }
+    ensures { λ r. ⌜ r ≡ glanceOf (keyOf (now (key .entry))) (rowOf (now (words .entry))) ⌝ }
+{
+    let links = links_of(words);
+    let sound = sound_at(words);
+    let same = same_words(words, key);
+    Glance {
+        prev: links.prev,
+        next: links.next,
+        sound: sound,
+        same: same,
+    }
+}
+
+// The same of a row that is opened whole.
+fn glance_row(row: Row, key: [u8; 32]) -> Glance
+    ensures { λ r. ⌜ r ≡ glanceOf key row ⌝ }
+{
+    let part = row.part;
+    let k = row.key;
+    Glance {
+        prev: row.prev,
+        next: row.next,
+        sound: receiver::row::fits(part),
+        same: rows::same_key(key, k),
+    }
+}
+
+// A look at one row for the key of these four words; a row out of range is opened whole.
+pub fn look_at(rows: &[u64], at: u32, key: &[u64; 4]) -> Glance
+    ensures { λ r. ⌜ r ≡ glanceOf (keyOf (now (key .entry))) (getD (rowsOf (now (rows .entry))) at blank) ⌝ }
+{
+    let good = fits_at(rows, at);
+    if good {
+        let a = flat::start_of(at);
+        let z = flat::end_of(at);
+        return glance_of(&rows[a..z], key);
+    }
+    let row = flat::get(rows, at);
+    glance_row(row, flat::key_at(key))
+}
+
+fn store_links(words: &mut [u64], p: u32, n: u32)
+    requires { ⌜ (length (now words) ≡ 23) × (rowFits (now words) ≡ true) ⌝ }
+    ensures { λ _. ⌜ (openedOf (now (words .exit)) ≡ withLinks (openedOf (now (words .entry))) p n) × (length (now (words .exit)) ≡ 23) ⌝ }
+{
+    let a = flat::wide32(p);
+    let b = flat::wide32(n);
+    flat::put2(words, 21, a, b);
+}
+
+fn store_part(words: &mut [u64], part: Part)
+    requires { ⌜ (length (now words) ≡ 23) × (rowFits (now words) ≡ true) ⌝ }
+    ensures { λ _. ⌜ (openedOf (now (words .exit)) ≡ withPart (openedOf (now (words .entry))) part) × (length (now (words .exit)) ≡ 23) ⌝ }
+{
+    let heard = part.heard;
+    let verdict = part.verdict;
+    flat::put_heard(words, heard);
+    flat::put_verdict(words, 14, verdict);
+}
+
+pub fn set_links(rows: &mut [u64], at: u32, p: u32, n: u32)
+    ensures { λ _. ⌜ (rowsOf (now (rows .exit)) ≡ set (rowsOf (now (rows .entry))) at (withLinks (getD (rowsOf (now (rows .entry))) at blank) p n)) × (length (now (rows .exit)) ≡ length (now (rows .entry))) ⌝ }
+{
+    let good = fits_at(rows, at);
+    if good {
+        let a = flat::start_of(at);
+        let z = flat::end_of(at);
+        store_links(&mut rows[a..z], p, n);
+        return;
+    }
+    let row = flat::get(rows, at);
+    flat::put(rows, at, rows::with_links(row, p, n));
+}
+
+pub fn set_part(rows: &mut [u64], at: u32, part: Part)
+    ensures { λ _. ⌜ (rowsOf (now (rows .exit)) ≡ partedRows (rowsOf (now (rows .entry))) at part) × (length (now (rows .exit)) ≡ length (now (rows .entry))) ⌝ }
+{
+    let good = fits_at(rows, at);
+    if good {
+        let a = flat::start_of(at);
+        let z = flat::end_of(at);
+        store_part(&mut rows[a..z], part);
+        return;
+    }
+    let row = flat::get(rows, at);
+    flat::put(rows, at, rows::with_part(row, part));
+}
+
+pub fn set_next(rows: &mut [u64], at: u32, n: u32)
+    ensures { λ _. ⌜ (rowsOf (now (rows .exit)) ≡ nexted (rowsOf (now (rows .entry))) at n) × (length (now (rows .exit)) ≡ length (now (rows .entry))) ⌝ }
+{
+    let links = links_at(rows, at);
+    set_links(rows, at, links.prev, n);
+}
+
+pub fn set_prev(rows: &mut [u64], at: u32, n: u32)
+    ensures { λ _. ⌜ (rowsOf (now (rows .exit)) ≡ preved (rowsOf (now (rows .entry))) at n) × (length (now (rows .exit)) ≡ length (now (rows .entry))) ⌝ }
+{
+    let links = links_at(rows, at);
+    set_links(rows, at, n, links.next);
+}
