@@ -5,8 +5,8 @@ ghost use lib.Dec.{T};
 ghost use Rattle.measures.specs.Degrees.{inDegrees};
 ghost use Rattle.sites.specs.Sites.{held, samePlace, antenna, placed, placing};
 use angles::site;
-use measures::degrees;
 use floats::horizon;
+use measures::degrees;
 
 // An altitude in metres, or none.
 pub enum Altitude {
