@@ -6,12 +6,13 @@ use native.Mathlib.Omega.{arith}
 use native.Mathlib.Nat.{div-add-mod', mul-le-mul-right}
 use mathlib.Core.Bool.{Bool, true, false, cond}
 use mathlib.Core.List.{List, [], _∷_, _++_}
-use borrow.Author.Tests.{eq-eqb, ne-eqb, leb-true, leb-false, eqb-true}
-use lib.Dec.{eqb, leb}
+use borrow.Author.Tests.{eq-eqb, ne-eqb, le-leb, leb-true, leb-false, lt-ltb, le-ltb, eqb-true}
+use lib.Dec.{eqb, leb, ltb}
 use lib.ListN.{length, getD, set, take, drop, length-append, length-take, length-drop, List·getD-eq-default}
 use lib.Seq.{take-at, drop-at, take-append-le, drop-append-le, take-take, drop-drop, set-out, take-nil}
 use mir.Syntax.{w32, w64}
 use mir.Val.{Fits}
+use Rattle.table.proofs.Tests.{byBool}
 use Rattle.rows.specs.declared.Row.{Row}
 use Rattle.rows.specs.Links.{blank}
 use Rattle.flat.specs.Words.{wordsOfRow, openedOf, closedOf}
@@ -30,9 +31,6 @@ starts-at i = ap (λ (n : ℕ). n * i) wide-is
 pub start-fits : (a i : ℕ) → a ≡ wordsOfRow * i → Fits w32 i → Fits w64 (a * 8)
 unfolding wordsOfRow
 start-fits a i e h = record { fits = omega (arith, h .fits) }
-
-pub outside-is : (n m i : ℕ) → n ≡ m → leb n i ≡ leb m i
-outside-is n m i e = ap (λ (k : ℕ). leb k i) e
 
 pub ends-at : (i : ℕ) → 23 * i + 23 ≡ wordsOfRow * i + wordsOfRow
 ends-at i = ap (λ (n : ℕ). n * i + n) wide-is
@@ -112,6 +110,25 @@ pub count-torn : (ws : List ℕ) (w : ℕ) → w ≡ wordsOfRow → length ws % 
 unfolding rowsOf
 count-torn ws w e h =
     sym (ap (λ (b : Bool). length (cond b (rowsFrom (length ws / wordsOfRow) ws) [])) (ne-eqb (length ws % wordsOfRow) 0 (λ z. h (ap (λ (n : ℕ). length ws % n) e ∙ z))))
+
+-- a number that is no row's, by where its row would end
+pub outside-whole : (ws : List ℕ) (w i z : ℕ) → w ≡ wordsOfRow → length ws % w ≡ 0 → z ≡ wordsOfRow * i + wordsOfRow → ltb (length ws) z ≡ leb (length (rowsOf ws)) i
+outside-whole ws w i z e h ez =
+    byBool (leb m i)
+    (λ t. lt-ltb (length ws) z (let g : m ≤ i = leb-true m i t in omega (arith, g, c, end)) ∙ sym t)
+    (λ t. le-ltb (length ws) z (let g : i < m = leb-false m i t in omega (arith, g, c, end)) ∙ sym t)
+  where
+    m : ℕ
+    m = length (rowsOf ws)
+
+    c : m ≡ length ws / 23
+    c = sym (count-whole ws w e h) ∙ ap (λ (n : ℕ). length ws / n) (e ∙ sym wide-is)
+
+    end : z ≡ 23 * i + 23
+    end = ez ∙ sym (ends-at i)
+
+pub outside-torn : (ws : List ℕ) (w i : ℕ) → w ≡ wordsOfRow → length ws % w ≢ 0 → true ≡ leb (length (rowsOf ws)) i
+outside-torn ws w i e h = sym (le-leb 0 i (omega arith)) ∙ ap (λ (n : ℕ). leb n i) (count-torn ws w e h)
 
 pub width-some : (w : ℕ) → w ≡ wordsOfRow → 0 < w
 width-some w e = omega (arith, e, some)

@@ -589,12 +589,6 @@ pub fn count(rows: &[u64]) -> usize
     if n % w == 0 { n / w } else { 0 }
 }
 
-pub fn outside(rows: &[u64], at: u32) -> bool
-    ensures { λ r. ⌜ r ≡ leb (length (rowsOf (now (rows .entry)))) at ⌝ }
-{
-    count(rows) <= (at as usize)
-}
-
 pub fn start_of(at: u32) -> usize
     ensures { λ r. ⌜ r ≡ wordsOfRow * at ⌝ }
 {
@@ -605,6 +599,15 @@ pub fn end_of(at: u32) -> usize
     ensures { λ r. ⌜ r ≡ wordsOfRow * at + wordsOfRow ⌝ }
 {
     23 * (at as usize) + 23
+}
+
+// Is this no row's number? Asked of every row of a pass, so without a division.
+pub fn outside(rows: &[u64], at: u32) -> bool
+    ensures { λ r. ⌜ r ≡ leb (length (rowsOf (now (rows .entry)))) at ⌝ }
+{
+    let w = row_words();
+    let n = rows.len();
+    if n % w == 0 { n < end_of(at) } else { true }
 }
 
 // A link's row; the unmade one for a link that is no row's number.

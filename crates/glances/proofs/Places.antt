@@ -68,9 +68,9 @@ module _ (ws : List ℕ) (i : ℕ) (t : Bool) (e : t ≡ fitsAt ws i) where
       byBool (leb (length (rowsOf ws)) i)
       (λ o. g ∙ ap linksOf (not-got ws i true (sym o) blank refl refl))
       (λ o.
-        let h = leb-false (length (rowsOf ws)) i o in
-        let n : rowFits (wordsAt ws i) ≡ false = sym (ap (λ (b : Bool). cond b false (rowFits (wordsAt ws i))) o) ∙ sym e ∙ f in
-        g ∙ sym no-links ∙ sym (ap linksOf (opened-junk (wordsAt ws i) n)) ∙ ap linksOf (got ws i (wordsOfRow * i) (wordsOfRow * i + wordsOfRow) h refl refl (openedOf (wordsAt ws i)) (ap openedOf (sym (words-are ws i (wordsOfRow * i) (wordsOfRow * i + wordsOfRow) h refl refl)))))
+      let h = leb-false (length (rowsOf ws)) i o in
+      let n : rowFits (wordsAt ws i) ≡ false = sym (ap (λ (b : Bool). cond b false (rowFits (wordsAt ws i))) o) ∙ sym e ∙ f in
+      g ∙ sym no-links ∙ sym (ap linksOf (opened-junk (wordsAt ws i) n)) ∙ ap linksOf (got ws i (wordsOfRow * i) (wordsOfRow * i + wordsOfRow) h refl refl (openedOf (wordsAt ws i)) (ap openedOf (sym (words-are ws i (wordsOfRow * i) (wordsOfRow * i + wordsOfRow) h refl refl)))))
 
   module _ (a z : ℕ) (f : t ≡ true) (ea : a ≡ wordsOfRow * i) (ez : z ≡ wordsOfRow * i + wordsOfRow) where
     abbrev part : List ℕ
