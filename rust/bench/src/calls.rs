@@ -53,7 +53,7 @@ impl Held {
         let mut held = Self {
             rows,
             key: asked,
-            ours: Watch::new(rows),
+            ours: Watch::new(rows).expect("1 to 4,096 rows"),
             theirs: Relay::new(rows),
         };
         let site = Site {

@@ -1,6 +1,6 @@
 //! The command line.
 
-use crate::report::unhex;
+use siting::list::unhex;
 
 /// The names of the checks, in the order in which they run.
 pub const CHECKS: [&str; 7] = [

@@ -8,6 +8,7 @@ mod excuses;
 mod fields;
 mod horizon;
 mod judge;
+mod kept;
 mod lent;
 mod lists;
 mod log;
