@@ -71,7 +71,7 @@ fn opened(flat: &siting::Row) -> Row {
 }
 
 impl Lent {
-    fn of(watch: &Watch) -> Self {
+    pub fn of(watch: &Watch) -> Self {
         let rows = watch.rows.iter().map(closed);
         Self(Kept::new(siting::Watch {
             rows: rows.flat_map(|row| *row.words()).collect(),

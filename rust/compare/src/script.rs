@@ -239,10 +239,10 @@ impl<'a> Script<'a> {
 
     /// A difference that no excuse covers.
     fn failed(&mut self, what: &str) {
-        let line = self.lines;
+        let (name, line) = (self.log.name, self.lines);
         self.log
             .failures
-            .add(&format!("lists: line {line}: {what}"));
+            .add(&format!("{name}: line {line}: {what}"));
     }
 
     /// What both sides make of a call's degrees or cells before it is made: None where an excuse

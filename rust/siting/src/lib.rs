@@ -34,6 +34,11 @@ pub use cells::{BAND_EDGES_KM, Cell, GRID_SIDE, HALF_CELLS, HALF_MS, ROW_CELLS};
 pub use row::{NONE, ROW_WORDS, Row, words_of};
 pub use watch::{Lent, MOST_ROWS, Watch};
 
+/// The README's example runs as a test too.
+#[cfg(doctest)]
+#[doc = include_str!("../README.md")]
+struct Readme;
+
 /// The number of grid cells: a place below it is a cell, one from it on a far bin.
 pub const GRID_CELLS: u16 = 1_600;
 
