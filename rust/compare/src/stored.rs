@@ -208,7 +208,7 @@ fn replayed(name: &str, asked: bool) -> Result<usize, String> {
     };
     let wants = lines(&stored);
     let held = |who: &str, got: &str| {
-        lists::settle(&wants, got).map_err(|wrong| format!("{name}, {who}, answer of {wrong}"))
+        lists::settle(&wants, got).map_err(|wrong| format!("{name}.out, {who}: {wrong}"))
     };
     held("the whole numbers", &right)?;
     held("the safe crate", &text::replay_by::<Lent>(&list))?;
