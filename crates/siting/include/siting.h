@@ -33,6 +33,32 @@ uint16_t siting_place(double site_lat, double site_lon, double lat, double lon);
 #define SITING_ROW_WORDS 23
 #define SITING_ROW_CELLS 3344
 
+/* A row's 23 numbers by name, in their order: `rows` may be read as an array of these. A number whose name begins with has_ is 0 or 1 and says whether
+   the numbers behind it are held (has_site: lat_bits to alt_m; has_verdict: last to moved); what is not held is written as 0 and not read. Any other
+   number there, or one that is too wide, is refused with 2. */
+struct siting_row {
+  uint64_t key[4];      /* little-endian words of eight bytes */
+  uint64_t has_site;
+  uint64_t lat_bits;    /* the bits of a double, degrees */
+  uint64_t lon_bits;
+  uint64_t has_alt;
+  uint64_t alt_m;       /* the 32 bits of an int32_t, metres */
+  uint64_t generation;  /* 32 bits */
+  uint64_t has_even;
+  uint64_t even_id;     /* milliseconds div 43,200,000 */
+  uint64_t has_odd;
+  uint64_t odd_id;
+  uint64_t has_verdict;
+  uint64_t last;        /* 0 unjudged, 1 fits, 2 wrong */
+  uint64_t wrongs;      /* in a row, stopped at 255 */
+  uint64_t others;
+  uint64_t has_off;
+  uint64_t off_km;      /* the distance held */
+  uint64_t moved;       /* 1 where a move has ended the run */
+  uint64_t before;      /* row numbers, 4294967295 for none */
+  uint64_t after;
+};
+
 void siting_fresh(uint64_t *rows, size_t rows_len, uint32_t *cells, size_t cells_len, uint32_t ends[3], uint64_t answer[9]);
 void siting_claim(uint64_t *rows, size_t rows_len, uint32_t *cells, size_t cells_len, uint32_t ends[3], uint64_t answer[9], const uint64_t key[4],
                   uint8_t site, double lat, double lon, uint8_t alt, int32_t alt_m);

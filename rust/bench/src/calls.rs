@@ -1,25 +1,49 @@
-//! The calls over a watch of C rows, all held, beside the original's parts and beside one plain
-//! pass over rows of the same size: question 2 makes every call look at every row.
+//! The calls over a watch of C rows, all held: through the crate, by the C function alone, the
+//! original's parts, and one plain pass over rows of the same size, since question 2 makes every
+//! call look at every row.
 
+use std::cell::RefCell;
 use std::hint::black_box;
 
 use oracle::{Claim, Key, Relay};
-use siting::{Position, Site, Watch};
+use siting::{Position, Site, Watch, raw, words_of};
 
 use crate::Bench;
 
 /// The sizes that are timed.
-pub const SIZES: [usize; 4] = [1, 64, 1_024, 4_096];
+const SIZES: [usize; 4] = [1, 64, 1_024, 4_096];
 
 /// A time of the day that the positions were heard on.
 const AT_MS: u64 = 1_772_432_251_932;
 
-/// Both sides with the same receivers, and the one that is asked for: in the middle of the order.
+/// The site that all claim.
+const SITE: Site = Site {
+    lat: 51.4775,
+    lon: -0.4614,
+    alt_m: Some(40),
+};
+
+/// The same for the original.
+const CLAIM: Claim = Claim {
+    at: (SITE.lat, SITE.lon),
+    alt_m: SITE.alt_m,
+};
+
+/// The heads of the table: the ratios are the first side's time to each other's.
+pub const HEADS: [&str; 4] = [
+    "through the crate",
+    "the C function",
+    "the Rust",
+    "a plain pass",
+];
+
+/// The same receivers for each side, and the one that is asked for: in the middle of the order.
 pub struct Held {
-    rows: usize,
     key: Key,
-    ours: Watch,
-    theirs: Relay,
+    /// The crate's, and the C functions'.
+    watch: RefCell<Watch>,
+    lent: RefCell<Watch>,
+    theirs: RefCell<Relay>,
 }
 
 /// The key of receiver number `at`.
@@ -46,135 +70,212 @@ fn heard(at: usize) -> Position {
     }
 }
 
+/// A position told to the original.
+fn told(relay: &mut Relay, key: Key, p: &Position) -> Result<(), u8> {
+    relay.position(key, (p.lat, p.lon), p.feet, p.address, p.at_ms)
+}
+
+/// A judging by the original.
+fn judged(relay: &mut Relay, key: Key) {
+    let number = relay.judge(key, AT_MS, 20).expect("held");
+    relay.judged(key, black_box(number));
+}
+
 impl Held {
     /// `rows` receivers; the one that is asked for has heard a morning and was judged.
-    pub fn new(rows: usize) -> Self {
+    fn new(rows: usize) -> Self {
         let asked = key(rows / 2);
-        let mut held = Self {
-            rows,
-            key: asked,
-            ours: Watch::new(rows),
-            theirs: Relay::new(rows),
-        };
-        let site = Site {
-            lat: 51.4775,
-            lon: -0.4614,
-            alt_m: Some(40),
-        };
-        let claim = Claim {
-            at: (site.lat, site.lon),
-            alt_m: site.alt_m,
-        };
+        let mut watch = Watch::new(rows).expect("1 to 4,096 rows");
+        let mut theirs = Relay::new(rows);
         for at in 0..rows {
-            held.ours
-                .lent()
-                .claim(&key(at), Some(site))
-                .expect("there is room");
-            held.theirs.claim(key(at), Some(claim));
+            watch.claim(&key(at), Some(SITE)).expect("there is room");
+            theirs.claim(key(at), Some(CLAIM));
         }
         for at in 0..400 {
-            held.position(&heard(at));
+            watch.position(&asked, &heard(at)).expect("held");
+            assert_eq!(told(&mut theirs, asked, &heard(at)), Ok(()));
         }
-        held.judging();
-        held
+        watch.judging(&asked, AT_MS, 20).expect("held");
+        judged(&mut theirs, asked);
+        Self {
+            key: asked,
+            lent: RefCell::new(watch.clone()),
+            watch: RefCell::new(watch),
+            theirs: RefCell::new(theirs),
+        }
     }
 
-    fn position(&mut self, p: &Position) {
-        self.ours.lent().position(&self.key, p).expect("held");
-        let at = (p.lat, p.lon);
-        let said = self
-            .theirs
-            .position(self.key, at, p.feet, p.address, p.at_ms);
-        assert_eq!(said, Ok(()));
+    /// One for each size.
+    pub fn all() -> Vec<Self> {
+        SIZES.map(Self::new).into()
     }
 
-    fn judging(&mut self) {
-        self.ours
-            .lent()
-            .judging(&self.key, AT_MS, 20)
-            .expect("held");
-        let number = self.theirs.judge(self.key, AT_MS, 20).expect("held");
-        self.theirs.judged(self.key, number);
-    }
-}
-
-/// The names of the rows of the table, so that they outlive it.
-pub fn names() -> Vec<[String; 4]> {
-    SIZES
-        .iter()
-        .map(|rows| {
-            ["position", "judging", "check", "check and a plain pass"]
-                .map(|call| format!("{call}, {rows} rows"))
+    /// A side that works on the crate's watch.
+    fn crates<'a, T>(&'a self, call: impl Fn(&mut Watch) -> T + 'a) -> Box<dyn FnMut() + 'a> {
+        Box::new(move || {
+            black_box(call(&mut self.watch.borrow_mut()));
         })
-        .collect()
+    }
+
+    /// A side that works on the original.
+    fn rusts<'a, T>(&'a self, call: impl Fn(&mut Relay) -> T + 'a) -> Box<dyn FnMut() + 'a> {
+        Box::new(move || {
+            black_box(call(&mut self.theirs.borrow_mut()));
+        })
+    }
+
+    /// One plain pass over all numbers of the rows: a sum.
+    fn pass(&self) -> Box<dyn FnMut() + '_> {
+        self.crates(|watch| {
+            let rows = black_box(&watch.rows).iter();
+            rows.fold(0, |sum: u64, word| sum.wrapping_add(*word))
+        })
+    }
 }
 
-/// The rows of the table for one size: a position, a judging, a check, and a check beside one
-/// plain pass over all numbers of the rows.
-pub fn benches<'a>(
-    held: &'a [std::cell::RefCell<Held>; 2],
-    names: &'a [String; 4],
-) -> Vec<Bench<'a>> {
-    let [ours, theirs] = held;
-    let p = heard(7);
+/// A side that makes these calls by the C functions with no wrapper; `answer` has the numbers of
+/// the call before.
+macro_rules! c {
+    ($held:expr, $answer:ident, $($name:ident($($argument:expr),*)),+) => {
+        Box::new(move || {
+            let Watch { rows, cells, ends } = &mut *$held.lent.borrow_mut();
+            let mut $answer = [0; 9];
+            $(
+                // SAFETY: pointers and counts are those of exclusive borrows that outlive the call.
+                unsafe {
+                    raw::$name(
+                        rows.as_mut_ptr(),
+                        rows.len(),
+                        cells.as_mut_ptr(),
+                        cells.len(),
+                        ends,
+                        &mut $answer
+                        $(, $argument)*
+                    );
+                }
+                assert_ne!(black_box($answer)[0], 0);
+            )+
+        })
+    };
+}
+
+/// One call on every side.
+type Sides<'a> = Vec<Box<dyn FnMut() + 'a>>;
+
+/// A call's name and its sides.
+type Named<'a> = (&'static str, Sides<'a>);
+
+/// The groups of calls, each measured once those before it are.
+pub const GROUPS: [fn(&Held) -> Vec<Named<'_>>; 3] = [steady, freeing, fresh];
+
+/// The calls that leave the watch's receivers as they are.
+fn steady(held: &Held) -> Vec<Named<'_>> {
+    let (p, key, words) = (heard(7), held.key, words_of(&held.key));
+    let feet = p.feet.unwrap_or(0);
+    let (lat, lon, alt_m) = (SITE.lat, SITE.lon, CLAIM.alt_m.unwrap_or(0));
+    let position: Sides = vec![
+        held.crates(move |watch| watch.position(&key, &p).expect("held")),
+        c!(
+            held,
+            answer,
+            siting_position(&words, p.lat, p.lon, 1, feet, p.address, p.at_ms)
+        ),
+        held.rusts(move |relay| told(relay, key, &p).expect("held")),
+        held.pass(),
+    ];
+    let judging: Sides = vec![
+        held.crates(move |watch| watch.judging(&key, AT_MS, 20).expect("held")),
+        c!(held, answer, siting_judging(&words, AT_MS, 20)),
+        held.rusts(move |relay| judged(relay, key)),
+        held.pass(),
+    ];
+    let check: Sides = vec![
+        held.crates(move |watch| watch.check(&key).expect("judged")),
+        c!(held, answer, siting_check(&words)),
+        held.rusts(move |relay| relay.check(key).expect("judged")),
+        held.pass(),
+    ];
+    let claim: Sides = vec![
+        held.crates(move |watch| watch.claim(&key, Some(SITE)).expect("held")),
+        c!(held, answer, siting_claim(&words, 1, lat, lon, 1, alt_m)),
+        held.rusts(move |relay| relay.claim(key, Some(CLAIM))),
+        held.pass(),
+    ];
     vec![
-        Bench {
-            name: &names[0],
-            calls: 1,
-            ours: Box::new(move || {
-                let held = &mut *ours.borrow_mut();
-                black_box(held.ours.lent().position(&held.key, &p)).expect("held");
-            }),
-            theirs: Box::new(move || {
-                let held = &mut *theirs.borrow_mut();
-                let at = (p.lat, p.lon);
-                let said = held
-                    .theirs
-                    .position(held.key, at, p.feet, p.address, p.at_ms);
-                black_box(said).expect("held");
-            }),
-        },
-        Bench {
-            name: &names[1],
-            calls: 1,
-            ours: Box::new(move || {
-                let held = &mut *ours.borrow_mut();
-                black_box(held.ours.lent().judging(&held.key, AT_MS, 20)).expect("held");
-            }),
-            theirs: Box::new(move || {
-                let held = &mut *theirs.borrow_mut();
-                let number = held.theirs.judge(held.key, AT_MS, 20).expect("held");
-                held.theirs.judged(held.key, black_box(number));
-            }),
-        },
-        Bench {
-            name: &names[2],
-            calls: 1,
-            ours: Box::new(move || {
-                let held = &mut *ours.borrow_mut();
-                black_box(held.ours.lent().check(&held.key)).expect("judged");
-            }),
-            theirs: Box::new(move || {
-                let held = &*theirs.borrow();
-                black_box(held.theirs.check(held.key)).expect("judged");
-            }),
-        },
-        Bench {
-            name: &names[3],
-            calls: 1,
-            ours: Box::new(move || {
-                let held = &mut *ours.borrow_mut();
-                black_box(held.ours.lent().check(&held.key)).expect("judged");
-            }),
-            theirs: Box::new(move || {
-                let held = &*theirs.borrow();
-                let rows = black_box(&held.ours.rows);
-                assert_eq!(rows.len(), held.rows * siting::ROW_WORDS);
-                black_box(
-                    rows.iter()
-                        .fold(0, |sum: u64, word| sum.wrapping_add(*word)),
-                );
-            }),
-        },
+        ("position", position),
+        ("judging", judging),
+        ("check", check),
+        ("claim of the same site", claim),
     ]
+}
+
+/// The calls that free rows, each with the claim that brings the receiver back.
+fn freeing(held: &Held) -> Vec<Named<'_>> {
+    let (key, words) = (self::key(0), words_of(&self::key(0)));
+    let (lat, lon, alt_m) = (SITE.lat, SITE.lon, CLAIM.alt_m.unwrap_or(0));
+    let take_out: Sides = vec![
+        held.crates(move |watch| {
+            watch.take_out(&key).expect("held");
+            watch.claim(&key, Some(SITE)).expect("there is room")
+        }),
+        c!(
+            held,
+            answer,
+            siting_take_out(&words),
+            siting_claim(&words, 1, lat, lon, 1, alt_m)
+        ),
+        held.rusts(move |relay| {
+            relay.take_out(key).expect("held");
+            relay.claim(key, Some(CLAIM))
+        }),
+        held.pass(),
+    ];
+    let drop_oldest: Sides = vec![
+        held.crates(|watch| {
+            let key = watch.drop_oldest().expect("held");
+            watch.claim(&key, Some(SITE)).expect("there is room")
+        }),
+        c!(
+            held,
+            answer,
+            siting_drop_oldest(),
+            siting_claim(
+                &[answer[5], answer[6], answer[7], answer[8]],
+                1,
+                lat,
+                lon,
+                1,
+                alt_m
+            )
+        ),
+        held.rusts(|relay| {
+            let key = relay.drop_oldest().expect("held");
+            relay.claim(key, Some(CLAIM))
+        }),
+        held.pass(),
+    ];
+    vec![
+        ("take-out and claim", take_out),
+        ("drop-oldest and claim", drop_oldest),
+    ]
+}
+
+/// Fresh, which empties the watch.
+fn fresh(held: &Held) -> Vec<Named<'_>> {
+    let fresh: Sides = vec![
+        held.crates(|watch| watch.fresh().expect("the sizes fit")),
+        c!(held, answer, siting_fresh()),
+    ];
+    vec![("fresh", fresh)]
+}
+
+/// The rows of the table for one size and one group of calls.
+pub fn benches<'a>(held: &'a Held, group: fn(&Held) -> Vec<Named<'_>>) -> Vec<Bench<'a>> {
+    let rows = held.watch.borrow().rows.len() / siting::ROW_WORDS;
+    let named = group(held).into_iter().map(|(call, sides)| Bench {
+        name: format!("{call}, {rows} rows"),
+        calls: 1,
+        sides,
+    });
+    named.collect()
 }

@@ -4,7 +4,6 @@
 mod calls;
 mod fields;
 
-use std::cell::RefCell;
 use std::hint::black_box;
 use std::time::Instant;
 
@@ -16,13 +15,12 @@ const INPUTS: usize = 4_096;
 /// How long one turn of one side should take, about, nanoseconds.
 const TURN_NS: f64 = 2e6;
 
-/// One row of the table: both sides do the same calls on the same inputs.
+/// One row of the table: all sides do the same calls on the same inputs.
 struct Bench<'a> {
-    name: &'a str,
+    name: String,
     /// Calls in one run of a side.
     calls: usize,
-    ours: Box<dyn FnMut() + 'a>,
-    theirs: Box<dyn FnMut() + 'a>,
+    sides: Vec<Box<dyn FnMut() + 'a>>,
 }
 
 /// The nanoseconds of one run, as the mean of `runs`.
@@ -42,18 +40,20 @@ fn over<'a, T: Copy, A: 'a, B: 'a>(
     theirs: impl Fn(T) -> B + 'a,
 ) -> Bench<'a> {
     Bench {
-        name,
+        name: name.to_string(),
         calls: inputs.len(),
-        ours: Box::new(move || {
-            for input in inputs {
-                black_box(ours(black_box(*input)));
-            }
-        }),
-        theirs: Box::new(move || {
-            for input in inputs {
-                black_box(theirs(black_box(*input)));
-            }
-        }),
+        sides: vec![
+            Box::new(move || {
+                for input in inputs {
+                    black_box(ours(black_box(*input)));
+                }
+            }),
+            Box::new(move || {
+                for input in inputs {
+                    black_box(theirs(black_box(*input)));
+                }
+            }),
+        ],
     }
 }
 
@@ -88,34 +88,54 @@ fn pairs(rng: &mut Rng, far: bool) -> Vec<(Degrees, Degrees)> {
     pairs
 }
 
-/// Measures all rows in turn, `repeats` times, and prints the table.
-fn table(rows: &mut [Bench], repeats: usize) {
-    let runs: Vec<[usize; 2]> = rows
+/// Measures all rows in turn, `repeats` times, all sides of a row in turn; the least time of each
+/// side in nanoseconds for a call.
+fn measured(rows: &mut [Bench], repeats: usize) -> Vec<Vec<f64>> {
+    let runs: Vec<Vec<usize>> = rows
         .iter_mut()
         .map(|row| {
-            [&mut row.ours, &mut row.theirs].map(|side| {
+            let sides = row.sides.iter_mut().map(|side| {
                 side();
                 let once = timed(side, 1);
                 ((TURN_NS / once) as usize).clamp(1, 10_000)
-            })
+            });
+            sides.collect()
         })
         .collect();
-    let mut least = vec![[f64::INFINITY; 2]; rows.len()];
+    let mut least: Vec<Vec<f64>> = runs.iter().map(|r| vec![f64::INFINITY; r.len()]).collect();
     for repeat in 0..repeats {
         for ((row, runs), least) in rows.iter_mut().zip(&runs).zip(&mut least) {
-            least[0] = least[0].min(timed(&mut row.ours, runs[0]));
-            least[1] = least[1].min(timed(&mut row.theirs, runs[1]));
+            for ((side, runs), least) in row.sides.iter_mut().zip(runs).zip(least) {
+                *least = least.min(timed(side, *runs) / row.calls as f64);
+            }
         }
         if repeat % 10 == 9 {
             eprintln!("bench: {} of {repeats} repeats", repeat + 1);
         }
     }
-    println!("| work | ours, ns | the Rust, ns | ratio |");
-    println!("|---|---:|---:|---:|");
-    for (row, least) in rows.iter().zip(least) {
-        let [ours, theirs] = least.map(|ns| ns / row.calls as f64);
-        let ratio = ours / theirs;
-        println!("| {} | {ours:.1} | {theirs:.1} | {ratio:.2} |", row.name);
+    least
+}
+
+/// Prints a table: each side's time, and how many times each other's the first one's is.
+fn table(heads: &[&str], rows: &mut [Bench], repeats: usize) {
+    let times = measured(rows, repeats);
+    let ratios = heads[1..].iter().map(|head| format!("ratio to {head}"));
+    let columns: Vec<String> = heads
+        .iter()
+        .map(|head| format!("{head}, ns"))
+        .chain(ratios)
+        .collect();
+    println!("\n| work | {} |", columns.join(" | "));
+    println!("|---|{}", "---:|".repeat(columns.len()));
+    for (row, times) in rows.iter().zip(times) {
+        let shown = |value: Option<&f64>, digits: usize| {
+            value.map_or("-".to_string(), |value| format!("{value:.digits$}"))
+        };
+        let ns = (0..heads.len()).map(|at| shown(times.get(at), 1));
+        let ratio = |at| times.get(at).map(|other| times[0] / other);
+        let ratios = (1..heads.len()).map(|at| shown(ratio(at).as_ref(), 2));
+        let cells: Vec<String> = ns.chain(ratios).collect();
+        println!("| {} | {} |", row.name, cells.join(" | "));
     }
 }
 
@@ -141,11 +161,6 @@ fn main() {
     let theirs = |(site, at)| Original::place(site, at);
     let fields = fields::all();
     let judged: Vec<Row> = fields.iter().map(|f| Row::new(&f.held, &f.cells)).collect();
-    let held: Vec<[RefCell<calls::Held>; 2]> = calls::SIZES
-        .iter()
-        .map(|size| [(); 2].map(|()| RefCell::new(calls::Held::new(*size))))
-        .collect();
-    let names = calls::names();
     let mut rows = vec![
         over("placing in the grid", &near, ours, theirs),
         over("placing past the grid", &far, ours, theirs),
@@ -165,20 +180,27 @@ fn main() {
     if probes::JUDGES {
         for (field, row) in fields.iter().zip(&judged) {
             rows.push(Bench {
-                name: field.name,
+                name: field.name.to_string(),
                 calls: 1,
-                ours: Box::new(|| {
-                    let (ids, site) = (field.held.ids, field.held.site);
-                    black_box(probes::judge(&field.cells, ids, site, field.now_ms, 15));
-                }),
-                theirs: Box::new(|| {
-                    black_box(row.judge(field.now_ms, 15));
-                }),
+                sides: vec![
+                    Box::new(|| {
+                        let (ids, site) = (field.held.ids, field.held.site);
+                        black_box(probes::judge(&field.cells, ids, site, field.now_ms, 15));
+                    }),
+                    Box::new(|| {
+                        black_box(row.judge(field.now_ms, 15));
+                    }),
+                ],
             });
         }
     }
-    for (held, names) in held.iter().zip(&names) {
-        rows.extend(calls::benches(held, names));
+    table(&["ours", "the Rust"], &mut rows, repeats);
+    let held = calls::Held::all();
+    for group in calls::GROUPS {
+        let mut rows: Vec<Bench> = held
+            .iter()
+            .flat_map(|held| calls::benches(held, group))
+            .collect();
+        table(&calls::HEADS, &mut rows, repeats);
     }
-    table(&mut rows, repeats);
 }

@@ -1,10 +1,19 @@
 //! The command line.
 
-use crate::report::unhex;
+use siting::list::unhex;
 
 /// The names of the checks, in the order in which they run.
-pub const CHECKS: [&str; 7] = [
-    "place", "coverage", "same", "horizon", "range", "judge", "lists",
+pub const CHECKS: [&str; 10] = [
+    "place",
+    "coverage",
+    "same",
+    "horizon",
+    "range",
+    "judge",
+    "lists",
+    "full",
+    "stored",
+    "endurance",
 ];
 
 /// What the command line asks for.
@@ -18,6 +27,11 @@ pub struct Args {
     pub judgings: u64,
     /// Calls of the lists, at least.
     pub calls: u64,
+    /// Calls of the lists on 4,096 rows, at least.
+    pub full: u64,
+    /// Calls of the endurance, and the seconds after which it ends all the same; 0 for no end.
+    pub endurance: u64,
+    pub seconds: u64,
     /// The checks to run.
     pub only: Vec<String>,
     /// A skipped check counts as failed.
@@ -35,7 +49,7 @@ pub struct Args {
 
 /// How it is called.
 pub const USAGE: &str =
-    "compare [--seed N] [--count N] [--judgings N] [--calls N] [--only CHECK,CHECK..] [--all]
+    "compare [--seed N] [--count N] [--judgings N] [--calls N] [--full N] [--endurance N] [--seconds N] [--only CHECK,CHECK..] [--all]
         compare --input place|same|horizon BITS..
         compare [--seed N] --write-vectors FOLDER
         compare --replay FILE
@@ -44,7 +58,10 @@ pub const USAGE: &str =
   --count N      inputs of each of place, same, horizon and range (1,000,000)
   --judgings N   judgings that reach each branch, at least (1,000)
   --calls N      calls in the lists, at least (250,000)
-  --only LIST    of place, coverage, same, horizon, range, judge, lists
+  --full N       calls in the lists on 4,096 rows, at least (8,000)
+  --endurance N  random calls on random watches (200,000)
+  --seconds N    the endurance ends after so many seconds at the latest
+  --only LIST    of place, coverage, same, horizon, range, judge, lists, full, stored, endurance
   --all          a check that is skipped counts as failed
   --input ..     shows both answers to one input, its floats as 16 hex digits each, as a failure prints them
   --write-vectors FOLDER writes the stored answers of the original below the repository's folder: samples/vectors and what the program `vectors` replays
@@ -58,6 +75,9 @@ pub fn parse(words: impl Iterator<Item = String>) -> Result<Args, String> {
         count: 1_000_000,
         judgings: 1_000,
         calls: 250_000,
+        full: 8_000,
+        endurance: 200_000,
+        seconds: 0,
         only: CHECKS.map(String::from).to_vec(),
         all: false,
         input: None,
@@ -83,6 +103,9 @@ pub fn parse(words: impl Iterator<Item = String>) -> Result<Args, String> {
             "--judgings" => args.judgings = number()?,
             "--write-vectors" => args.write_vectors = Some(value),
             "--calls" => args.calls = number()?,
+            "--full" => args.full = number()?,
+            "--endurance" => args.endurance = number()?,
+            "--seconds" => args.seconds = number()?,
             "--replay" => args.replay = Some(value),
             "--store" => args.store = Some(value),
             "--input" => {

@@ -1,13 +1,14 @@
 //! Our seven calls over rows lent as numbers, through the safe crate over the C functions.
 
 use oracle::{Claim, Run, State};
-use siting::{Evidence, Judgment, NONE, Position, ROW_WORDS, Refusal, Site};
+use siting::{Evidence, Judgment, NONE, Position, ROW_WORDS, Refusal, Site, words_of};
 
+use crate::kept::Kept;
 use crate::text::Table;
 use crate::watch::{Answer, Call, Link, Row, Watch};
 
 /// A watch as the crate holds it.
-pub struct Lent(siting::Watch);
+pub struct Lent(pub Kept);
 
 fn link(link: Link) -> u32 {
     link.unwrap_or(NONE)
@@ -17,89 +18,93 @@ fn unlink(word: u64) -> Link {
     Some(word as u32).filter(|link| *link != NONE)
 }
 
-/// A row as its 23 numbers.
-fn closed(row: &Row) -> [u64; ROW_WORDS] {
-    let mut words = [0; ROW_WORDS];
-    for (word, bytes) in words.iter_mut().zip(row.key.chunks_exact(8)) {
-        *word = u64::from_le_bytes(bytes.try_into().expect("eight bytes"));
-    }
-    if let Some(site) = row.site {
-        words[4] = 1;
-        words[5] = site.at.0.to_bits();
-        words[6] = site.at.1.to_bits();
-        if let Some(alt_m) = site.alt_m {
-            words[7] = 1;
-            words[8] = u64::from(alt_m as u32);
-        }
-    }
-    words[9] = u64::from(row.generation);
-    for (at, id) in [10, 12].into_iter().zip(row.ids) {
-        if let Some(id) = id {
-            words[at] = 1;
-            words[at + 1] = id;
-        }
-    }
-    if let Some(run) = row.run {
-        words[14] = 1;
-        words[15] = u64::from(run.last);
-        words[16] = u64::from(run.wrongs);
-        words[17] = u64::from(run.others);
-        if let Some(off_km) = run.off_km {
-            words[18] = 1;
-            words[19] = u64::from(off_km);
-        }
-        words[20] = u64::from(run.moved);
-    }
-    words[21] = u64::from(link(row.before));
-    words[22] = u64::from(link(row.after));
-    words
+/// A tag and the number behind it.
+fn held(number: Option<u64>) -> (u64, u64) {
+    number.map_or((0, 0), |number| (1, number))
 }
 
-/// The row that 23 numbers stand for.
-fn opened(words: &[u64]) -> Row {
-    let mut key = [0; 32];
-    for (bytes, word) in key.chunks_exact_mut(8).zip(words) {
-        bytes.copy_from_slice(&word.to_le_bytes());
+/// A row as it is lent.
+fn closed(row: &Row) -> siting::Row {
+    let mut flat = siting::Row {
+        key: words_of(&row.key),
+        generation: u64::from(row.generation),
+        before: u64::from(link(row.before)),
+        after: u64::from(link(row.after)),
+        ..siting::Row::default()
+    };
+    if let Some(site) = row.site {
+        flat.has_site = 1;
+        [flat.lat_bits, flat.lon_bits] = [site.at.0, site.at.1].map(f64::to_bits);
+        (flat.has_alt, flat.alt_m) = held(site.alt_m.map(|alt| u64::from(alt as u32)));
     }
-    let site = (words[4] == 1).then(|| Claim {
-        at: (f64::from_bits(words[5]), f64::from_bits(words[6])),
-        alt_m: (words[7] == 1).then_some(words[8] as u32 as i32),
-    });
-    let run = (words[14] == 1).then(|| Run {
-        last: words[15] as u8,
-        wrongs: words[16] as u8,
-        others: words[17] as u8,
-        off_km: (words[18] == 1).then_some(words[19] as u32),
-        moved: words[20] == 1,
-    });
+    (flat.has_even, flat.even_id) = held(row.ids[0]);
+    (flat.has_odd, flat.odd_id) = held(row.ids[1]);
+    if let Some(run) = row.run {
+        flat.has_verdict = 1;
+        [flat.last, flat.wrongs, flat.others] = [run.last, run.wrongs, run.others].map(u64::from);
+        (flat.has_off, flat.off_km) = held(run.off_km.map(u64::from));
+        flat.moved = u64::from(run.moved);
+    }
+    flat
+}
+
+/// The row that is lent so.
+fn opened(flat: &siting::Row) -> Row {
     Row {
-        key,
-        site,
-        generation: words[9] as u32,
-        ids: [10, 12].map(|at| (words[at] == 1).then_some(words[at + 1])),
-        run,
-        before: unlink(words[21]),
-        after: unlink(words[22]),
+        key: flat.receiver(),
+        site: flat.site().map(|site| Claim {
+            at: (site.lat, site.lon),
+            alt_m: site.alt_m,
+        }),
+        generation: flat.generation as u32,
+        ids: flat.ids(),
+        run: (flat.has_verdict == 1).then(|| Run {
+            last: flat.last as u8,
+            wrongs: flat.wrongs as u8,
+            others: flat.others as u8,
+            off_km: (flat.has_off == 1).then_some(flat.off_km as u32),
+            moved: flat.moved == 1,
+        }),
+        before: unlink(flat.before),
+        after: unlink(flat.after),
     }
 }
 
 impl Lent {
-    fn of(watch: &Watch) -> Self {
-        Self(siting::Watch {
-            rows: watch.rows.iter().flat_map(closed).collect(),
+    pub fn of(watch: &Watch) -> Self {
+        let rows = watch.rows.iter().map(closed);
+        Self(Kept::new(siting::Watch {
+            rows: rows.flat_map(|row| *row.words()).collect(),
             cells: watch.cells.clone(),
             ends: [watch.first, watch.last, watch.free].map(link),
-        })
+        }))
     }
 
     fn watch(&self) -> Watch {
-        let [first, last, free] = self.0.ends.map(|end| unlink(u64::from(end)));
+        let now = self.0.now();
+        let [first, last, free] = now.ends.map(|end| unlink(u64::from(end)));
         Watch {
-            rows: self.0.rows.chunks_exact(ROW_WORDS).map(opened).collect(),
-            cells: self.0.cells.clone(),
+            rows: siting::Row::all(&now.rows).iter().map(opened).collect(),
+            cells: now.cells.clone(),
             first,
             last,
             free,
+        }
+    }
+
+    /// Makes a call; an error where it was refused and a byte has changed.
+    pub fn called(&mut self, call: &Call) -> Result<Answer, String> {
+        match self.ask(call) {
+            Ok(answer) if *call == Call::Fresh => {
+                self.0.follow_all();
+                Ok(answer)
+            }
+            Ok(answer) => {
+                self.0.follow(call.key().into_iter().chain(answer.key()));
+                Ok(answer)
+            }
+            Err(refusal) if self.0.unchanged() => Ok(Answer::No(refusal.number())),
+            Err(refusal) => Err(format!("{}: {refusal} and a change", call.line())),
         }
     }
 
@@ -171,11 +176,7 @@ impl Table for Lent {
 
     /// A refusal changes no byte.
     fn call(&mut self, call: &Call) -> Answer {
-        let before = self.0.clone();
-        self.ask(call).unwrap_or_else(|refusal| {
-            assert!(self.0 == before, "{call:?}: {refusal} and a change");
-            Answer::No(refusal.number())
-        })
+        self.called(call).unwrap_or_else(|wrong| panic!("{wrong}"))
     }
 
     fn digest(&self) -> u64 {
@@ -183,21 +184,25 @@ impl Table for Lent {
     }
 
     fn row(&mut self, at: usize, row: Row) -> bool {
-        let words = self.0.rows.chunks_exact_mut(ROW_WORDS).nth(at);
-        words.is_some_and(|words| {
-            words.copy_from_slice(&closed(&row));
-            true
+        self.0.set(|watch| {
+            let words = watch.rows.chunks_exact_mut(ROW_WORDS).nth(at);
+            words.is_some_and(|words| {
+                words.copy_from_slice(closed(&row).words());
+                true
+            })
         })
     }
 
     fn cell(&mut self, at: usize, word: u32) -> bool {
-        self.0.cells.get_mut(at).is_some_and(|cell| {
-            *cell = word;
-            true
+        self.0.set(|watch| {
+            watch.cells.get_mut(at).is_some_and(|cell| {
+                *cell = word;
+                true
+            })
         })
     }
 
     fn ends(&mut self, ends: [Link; 3]) {
-        self.0.ends = ends.map(link);
+        self.0.set(|watch| watch.ends = ends.map(link));
     }
 }

@@ -10,7 +10,7 @@ use crate::program::{self, Running};
 use crate::report::{Failures, Outcome, Progress};
 use crate::rng::Rng;
 use crate::script::Wants;
-use crate::soups::{MAKERS, Maker};
+use crate::soups::{FULL, MAKERS, Maker};
 use crate::text;
 
 /// A list given to the program.
@@ -51,6 +51,16 @@ pub fn settle(wants: &[(u32, String)], got: &str) -> Result<(), String> {
 }
 
 impl Given {
+    /// Starts the program on a list.
+    fn to_program(name: String, text: String, wants: Wants) -> Result<Self, String> {
+        program::start(text.clone()).map(|running| Self {
+            name,
+            text,
+            wants,
+            running,
+        })
+    }
+
     /// Waits for the answers and compares them; a list with a wrong one is written down.
     fn settle(self, failures: &mut Failures) {
         let got = self.running.answers();
@@ -65,16 +75,16 @@ impl Given {
     }
 }
 
-/// Why the program is not asked: it is not there, or does not know the watch yet; None where it
-/// does. One that fails at the first call is an error.
-fn unasked() -> Result<Option<String>, String> {
+/// Why the program is not asked: it is not there, does not know the watch yet or not one of so
+/// many rows; None where it does. One that fails at the first call is an error.
+pub fn unasked(rows: usize) -> Result<Option<String>, String> {
     let path = program::path();
     if !path.is_file() {
         let built = "`rt check calls` builds it; SITING_CALLS names another";
         return Ok(Some(format!("{} is not there ({built})", path.display())));
     }
     // A list has every kind of line, so a program is asked once it knows them all.
-    let answer = program::ask(EVERY_LINE)?;
+    let answer = program::ask(&format!("{EVERY_LINE}watch {rows}\nfresh\n"))?;
     match answer
         .lines()
         .find(|line| *line != "ok" && !line.starts_with("digest "))
@@ -99,73 +109,113 @@ pub fn made(seed: u64, name: &str, maker: Maker, log: &mut Log) -> (String, Want
     script.done()
 }
 
-/// Lists until `calls` calls were made.
-pub fn check(seed: u64, calls: u64) -> Outcome {
-    let program = match unasked() {
-        Ok(why) => why,
-        Err(wrong) => {
-            println!("lists: {wrong}");
-            return Outcome::Failed;
+/// What is compared by lists: the ways in which they are made, and on how many rows.
+pub struct Lists {
+    name: &'static str,
+    /// A name, the maker, and about how many calls a list has.
+    ways: Vec<(&'static str, Maker, u64)>,
+    /// The rows of every watch; none where a list chooses a few.
+    rows: Option<usize>,
+}
+
+impl Lists {
+    /// On few rows.
+    pub fn small() -> Self {
+        Self {
+            name: "lists",
+            ways: MAKERS.map(|(name, maker)| (name, maker, 4_000)).to_vec(),
+            rows: None,
         }
-    };
-    if let Some(why) = &program {
-        println!("lists: our program is not asked: {why}");
     }
-    let mut progress = Progress::new("lists", calls);
-    let mut log = Log::new(4_000);
-    log.empty =
-        program.is_none() && program::ask("lend 0 0\ncheck 1\n") == Ok("no 1\n".to_string());
-    let mut given: Option<Given> = None;
-    let mut made_by = MAKERS.map(|(name, _)| (name, 0, 0));
-    let mut lists = 0;
-    while log.calls < calls || lists < 2 * MAKERS.len() as u64 {
-        let way = lists as usize % MAKERS.len();
-        let name = format!("list-{seed}-{lists}");
-        let (before, wrong) = (log.calls, log.failures.count);
-        let (text, wants) = made(seed, &name, MAKERS[way].1, &mut log);
-        if log.failures.count > wrong {
-            println!("  in {name}, {}", MAKERS[way].0);
+
+    /// On as many rows as a watch can have.
+    pub fn full() -> Self {
+        Self {
+            name: "full",
+            ways: FULL.to_vec(),
+            rows: Some(siting::MOST_ROWS),
         }
-        made_by[way].1 += 1;
-        made_by[way].2 += log.calls - before;
-        lists += 1;
-        if let Err(wrong) = settle(&wants, &text::replay_by::<Lent>(&text)) {
-            log.failures
-                .add(&format!("lists: {name} through the safe crate: {wrong}"));
-            keep(&name, &text);
+    }
+
+    /// Lists until `calls` calls were made, each way at least twice on few rows, once on many.
+    pub fn check(&self, seed: u64, calls: u64) -> Outcome {
+        let program = match unasked(self.rows.unwrap_or(64)) {
+            Ok(why) => why,
+            Err(wrong) => {
+                println!("{}: {wrong}", self.name);
+                return Outcome::Failed;
+            }
+        };
+        if let Some(why) = &program {
+            println!("{}: our program is not asked: {why}", self.name);
         }
-        // The program works on the last list while the next one is made.
-        if let Some(given) = given.take() {
+        let mut progress = Progress::new(self.name, calls);
+        let mut log = Log::new(0);
+        log.name = self.name;
+        log.size = self.rows;
+        log.empty =
+            program.is_none() && program::ask("lend 0 0\ncheck 1\n") == Ok("no 1\n".to_string());
+        let made_by = self.compare(seed, calls, program.is_none(), &mut log, &mut progress);
+        log.say(&made_by, progress.seconds());
+        match log.outcome() {
+            Outcome::Passed if program.is_some() => {
+                println!("  our calls were asked through the safe crate, the program was not");
+                Outcome::Passed
+            }
+            outcome => outcome,
+        }
+    }
+
+    /// Makes the lists and compares them; how many lists and calls each way had.
+    fn compare(
+        &self,
+        seed: u64,
+        calls: u64,
+        asked: bool,
+        log: &mut Log,
+        progress: &mut Progress,
+    ) -> Vec<(&'static str, u64, u64)> {
+        let mut made_by: Vec<_> = self.ways.iter().map(|way| (way.0, 0, 0)).collect();
+        let least = self.ways.len() * if self.rows.is_none() { 2 } else { 1 };
+        let mut given: Option<Given> = None;
+        let mut lists = 0;
+        while (log.calls < calls || lists < least) && log.failures.count <= 20 {
+            let way = lists % self.ways.len();
+            let (kind, maker, length) = self.ways[way];
+            log.length = length;
+            let name = match self.rows {
+                None => format!("list-{seed}-{lists}"),
+                Some(rows) => format!("list-{rows}-{seed}-{lists}"),
+            };
+            let (before, wrong) = (log.calls, log.failures.count);
+            let (text, wants) = made(seed, &name, maker, log);
+            if log.failures.count > wrong {
+                println!("  in {name}, {kind}");
+            }
+            made_by[way].1 += 1;
+            made_by[way].2 += log.calls - before;
+            lists += 1;
+            if let Err(wrong) = settle(&wants, &text::replay_by::<Lent>(&text)) {
+                let what = format!("{}: {name} through the safe crate: {wrong}", self.name);
+                log.failures.add(&what);
+                keep(&name, &text);
+            }
+            // The program works on the last list while the next one is made.
+            if let Some(given) = given.take() {
+                given.settle(&mut log.failures);
+            }
+            if asked {
+                match Given::to_program(name, text, wants) {
+                    Ok(started) => given = Some(started),
+                    Err(wrong) => log.failures.add(&format!("{}: {wrong}", self.name)),
+                }
+            }
+            progress.at(log.calls / 1_024 * 1_024);
+        }
+        if let Some(given) = given {
             given.settle(&mut log.failures);
         }
-        if program.is_none() {
-            match program::start(text.clone()) {
-                Ok(running) => {
-                    given = Some(Given {
-                        name,
-                        text,
-                        wants,
-                        running,
-                    });
-                }
-                Err(wrong) => log.failures.add(&format!("lists: {wrong}")),
-            }
-        }
-        progress.at(log.calls / 1_024 * 1_024);
-        if log.failures.count > 20 {
-            break;
-        }
-    }
-    if let Some(given) = given {
-        given.settle(&mut log.failures);
-    }
-    log.say(&made_by, progress.seconds());
-    match log.outcome() {
-        Outcome::Passed if program.is_some() => {
-            println!("  our calls were asked through the safe crate, the program was not");
-            Outcome::Passed
-        }
-        outcome => outcome,
+        made_by
     }
 }
 

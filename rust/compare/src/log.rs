@@ -37,8 +37,12 @@ const REACHED: [(&str, &[&str]); 7] = [
 /// What was seen over all lists.
 #[derive(Default)]
 pub struct Log {
+    /// The check's name.
+    pub name: &'static str,
     /// About as many calls are in a list.
     pub length: u64,
+    /// The rows of every watch; none where a list chooses a few.
+    pub size: Option<usize>,
     pub tally: Tally,
     pub failures: Failures,
     /// How often each call had each kind of answer.
@@ -67,9 +71,21 @@ impl Log {
     /// For lists of about so many calls.
     pub fn new(length: u64) -> Self {
         Self {
+            name: "lists",
             length,
             ..Self::default()
         }
+    }
+
+    /// Whether a kind of answer must be reached. On watches of a chosen size only that each call is
+    /// accepted, and that receivers are pushed out.
+    fn needed(&self, said: &str) -> bool {
+        self.size.is_none() || ["ok", "pushes", "unjudged"].contains(&said)
+    }
+
+    /// The state is looked at so many times more rarely: on 4,096 rows that takes long.
+    pub fn rarer(&self) -> usize {
+        self.size.map_or(1, |rows| rows.div_ceil(128))
     }
 
     /// Whether each call had each answer that it can get, said in a line for each.
@@ -87,9 +103,14 @@ impl Log {
                 .map(|(said, n)| format!("{said} {n}"))
                 .collect();
             println!("  {call:<8} {}", text.join(", "));
-            if counts.iter().any(|(_, count)| *count == 0) {
-                self.failures
-                    .add(&format!("lists: an answer to {call} was never reached"));
+            if counts
+                .iter()
+                .any(|(said, count)| *count == 0 && self.needed(said))
+            {
+                self.failures.add(&format!(
+                    "{}: an answer to {call} was never reached",
+                    self.name
+                ));
             }
         }
     }
@@ -103,7 +124,8 @@ impl Log {
     pub fn say(&mut self, made_by: &[(&str, u64, u64)], seconds: f64) {
         let lists: u64 = made_by.iter().map(|(_, lists, _)| lists).sum();
         println!(
-            "lists: {} calls in {lists} lists, {} left out by an excuse; {} digests, {} rows of the original, {} rounds of all rows, {} answers of a card, {} unreadable lines; {seconds:.1} s",
+            "{}: {} calls in {lists} lists, {} left out by an excuse; {} digests, {} rows of the original, {} rounds of all rows, {} answers of a card, {} unreadable lines; {seconds:.1} s",
+            self.name,
             self.calls,
             self.left_out,
             self.digests,

@@ -4,10 +4,12 @@
 
 mod args;
 mod degrees;
+mod endurance;
 mod excuses;
 mod fields;
 mod horizon;
 mod judge;
+mod kept;
 mod lent;
 mod lists;
 mod log;
@@ -31,10 +33,13 @@ use std::process::ExitCode;
 use oracle::Original;
 use report::{Outcome, hex};
 
+/// The checks that do not ask the original.
+const WITHOUT: [&str; 3] = ["range", "stored", "endurance"];
+
 /// Runs one check; those that ask the original are skipped where it is not there.
 fn run(name: &str, args: &args::Args, reached: &mut place::Reached) -> Outcome {
     let (seed, count) = (args.seed, args.count);
-    if name != "range" && !oracle::FOUND {
+    if !WITHOUT.contains(&name) && !oracle::FOUND {
         println!("{name}: skipped, there is no original to compare with");
         return Outcome::Skipped;
     }
@@ -45,7 +50,10 @@ fn run(name: &str, args: &args::Args, reached: &mut place::Reached) -> Outcome {
         "horizon" => horizon::check(seed, count),
         "range" => place::check_range(seed, count),
         "judge" => judge::check(seed, args.judgings),
-        _ => lists::check(seed, args.calls),
+        "lists" => lists::Lists::small().check(seed, args.calls),
+        "full" => lists::Lists::full().check(seed, args.full),
+        "stored" => stored::check(),
+        _ => endurance::check(seed, args.endurance, args.seconds),
     }
 }
 
@@ -123,8 +131,8 @@ fn main() -> ExitCode {
         return stored::store(folder, args.seed);
     }
     println!(
-        "seed {}, count {}, judgings {}, calls {}",
-        args.seed, args.count, args.judgings, args.calls
+        "seed {}, count {}, judgings {}, calls {}, on 4,096 rows {}, endurance {}",
+        args.seed, args.count, args.judgings, args.calls, args.full, args.endurance
     );
     let (mut passed, mut failed, mut skipped) = (0, 0, 0);
     let mut reached = place::Reached::new();

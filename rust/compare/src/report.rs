@@ -82,17 +82,11 @@ pub fn hex(floats: &[f64]) -> String {
     words.join(" ")
 }
 
-/// The float of 16 hex digits.
-pub fn unhex(text: &str) -> Option<f64> {
-    let whole = text.len() == 16 && text.bytes().all(|b| b.is_ascii_hexdigit());
-    whole
-        .then(|| u64::from_str_radix(text, 16).ok())?
-        .map(f64::from_bits)
-}
-
 #[cfg(test)]
 mod tests {
-    use super::{hex, unhex};
+    use siting::list::unhex;
+
+    use super::hex;
 
     #[test]
     fn hex_comes_back() {

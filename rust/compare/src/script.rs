@@ -4,6 +4,7 @@
 use std::collections::BTreeSet;
 
 use oracle::{CELLS, HALF, Key, Number, Original, Relay, Seen};
+use siting::list::short;
 
 use crate::excuses::Kind;
 use crate::log::Log;
@@ -51,7 +52,7 @@ fn shown(seen: &Seen) -> String {
         run,
         ..
     } = seen;
-    let key = text::short(&seen.key);
+    let key = short(&seen.key);
     format!("{key} {number:?} {site:?} generation {generation} ids {ids:?} {run:?}")
 }
 
@@ -238,10 +239,10 @@ impl<'a> Script<'a> {
 
     /// A difference that no excuse covers.
     fn failed(&mut self, what: &str) {
-        let line = self.lines;
+        let (name, line) = (self.log.name, self.lines);
         self.log
             .failures
-            .add(&format!("lists: line {line}: {what}"));
+            .add(&format!("{name}: line {line}: {what}"));
     }
 
     /// What both sides make of a call's degrees or cells before it is made: None where an excuse
@@ -369,7 +370,7 @@ impl<'a> Script<'a> {
             if freed {
                 self.log.carried += 1;
             } else {
-                let key = text::short(&key);
+                let key = short(&key);
                 self.failed(&format!("{key}: `Verdicts` of all rows say otherwise"));
             }
         }

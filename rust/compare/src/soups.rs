@@ -27,11 +27,26 @@ pub const MAKERS: [(&str, Maker); 9] = [
     ("junk watches", junk),
 ];
 
+/// The ways that are made on 4,096 rows, with about as many calls as one list has.
+pub const FULL: [(&str, Maker, u64); 5] = [
+    ("floods of fresh keys against one receiver", flood, 4_800),
+    ("soups", soup, 1_200),
+    ("days, all rows judged each half hour", days, 2_500),
+    ("lent watches with made-up rows", lent, 200),
+    ("junk watches", junk, 40),
+];
+
+/// The most receivers that hear something in a soup or a day, however many rows there are.
+const HEARING: usize = 60;
+
+/// As many rows are not flooded again and again.
+const MANY: usize = 200;
+
 /// Half an hour.
 const HALF_HOUR: u64 = 1_800_000;
 
 /// A key: one digit, a few, all zeros, or any.
-fn key(rng: &mut Rng) -> Key {
+pub fn key(rng: &mut Rng) -> Key {
     let mut key = [0; 32];
     match rng.below(4) {
         0 => key[31] = rng.below(16) as u8,
@@ -64,7 +79,7 @@ fn said(rng: &mut Rng, at: Degrees) -> Degrees {
 }
 
 /// A site anywhere; now and then at a pole, on the date line or at zero.
-fn place(rng: &mut Rng) -> Degrees {
+pub fn place(rng: &mut Rng) -> Degrees {
     let at = (rng.within(85.0), rng.within(180.0));
     match rng.below(40) {
         0..3 => (at.0, rng.pick(&[180.0, -180.0, 179.999, -179.999])),
@@ -76,7 +91,7 @@ fn place(rng: &mut Rng) -> Degrees {
 }
 
 /// Degrees out of range.
-fn bad(rng: &mut Rng) -> Degrees {
+pub fn bad(rng: &mut Rng) -> Degrees {
     let (lat, lon) = (rng.within(90.0), rng.within(180.0));
     match rng.below(6) {
         0 => (f64::NAN, lon),
@@ -92,7 +107,7 @@ fn bad(rng: &mut Rng) -> Degrees {
 }
 
 /// An altitude or none.
-fn altitude(rng: &mut Rng) -> Option<i32> {
+pub fn altitude(rng: &mut Rng) -> Option<i32> {
     match rng.below(5) {
         0 | 1 => None,
         2 => Some(rng.pick(&[i32::MIN, i32::MAX, -1, 0])),
@@ -101,7 +116,7 @@ fn altitude(rng: &mut Rng) -> Option<i32> {
 }
 
 /// A height in feet, or none.
-fn feet(rng: &mut Rng) -> Option<i32> {
+pub fn feet(rng: &mut Rng) -> Option<i32> {
     match rng.below(6) {
         0 | 1 => None,
         2 => Some(rng.pick(&[-1, 0, 499, 500, 127_000, 126_999, i32::MIN, i32::MAX])),
@@ -282,7 +297,7 @@ impl Soup {
 
 /// Looks at the whole state once in so many calls, now and then after a line that is no call.
 fn look(rng: &mut Rng, script: &mut Script, calls: usize) {
-    if rng.one_in(calls) {
+    if rng.one_in(calls * script.log.rarer()) {
         match rng.below(8) {
             0 => script.unreadable(rng.pick(&UNREADABLE)),
             1 => script.note(rng.pick(&["", "no call"])),
@@ -294,10 +309,11 @@ fn look(rng: &mut Rng, script: &mut Script, calls: usize) {
 
 /// Any calls on about as many keys as rows.
 fn soup<'a>(rng: &mut Rng, log: &'a mut Log) -> Script<'a> {
-    let rows = rng.int(1, 5) as usize;
+    let few = rng.int(1, 5) as usize;
+    let rows = log.size.unwrap_or(few);
     let mut script = Script::new(rows, log);
     while script.calls() < script.log.length {
-        let keys = rows + rng.below(3);
+        let keys = rows.min(HEARING) + rng.below(3);
         let mut soup = Soup::new(rng, keys);
         let end = script.calls() + rng.int(100, 1_500) as u64;
         while script.calls() < end {
@@ -322,9 +338,10 @@ fn wide<'a>(rng: &mut Rng, log: &'a mut Log) -> Script<'a> {
 /// Receivers that hear a few positions each half hour, all judged at its end; a move or a fresh
 /// start now and then.
 fn days<'a>(rng: &mut Rng, log: &'a mut Log) -> Script<'a> {
-    let rows = rng.int(1, 5) as usize;
+    let few = rng.int(1, 5) as usize;
+    let rows = log.size.unwrap_or(few);
     let mut script = Script::new(rows, log);
-    let mut soup = Soup::new(rng, rows);
+    let mut soup = Soup::new(rng, rows.min(HEARING));
     let scenes: Vec<Scene> = soup.keys.iter().map(|_| scene(rng)).collect();
     for key in soup.keys.clone() {
         let claim = Claim {
@@ -370,15 +387,25 @@ fn days<'a>(rng: &mut Rng, log: &'a mut Log) -> Script<'a> {
 
 /// Fresh keys against one receiver: fewer than C between its marks, and now and then more.
 fn flood<'a>(rng: &mut Rng, log: &'a mut Log) -> Script<'a> {
-    let rows = if rng.one_in(8) {
+    let few = if rng.one_in(8) {
         64
     } else {
         rng.int(1, 5) as usize
     };
+    let rows = log.size.unwrap_or(few);
     let mut script = Script::new(rows, log);
     let mut soup = Soup::new(rng, rows + 1);
     let receiver = soup.keys[0];
     script.guard(receiver);
+    if rows >= MANY {
+        // All rows are held first, and the receiver is pushed out by the last of C others.
+        for key in soup.keys.clone() {
+            let call = soup.claim(rng, key);
+            if !matches!(script.call(call), Some(Answer::Claimed(..))) {
+                script.call(Call::Claim(key, None));
+            }
+        }
+    }
     while script.calls() < script.log.length {
         let held = script.watch.find(receiver);
         if held.is_none() || rng.one_in(6) {
@@ -388,11 +415,11 @@ fn flood<'a>(rng: &mut Rng, log: &'a mut Log) -> Script<'a> {
             let call = soup.position(rng, &script, receiver, soup.clock);
             script.call(call);
         }
-        let beyond = rng.one_in(5);
+        let beyond = rng.one_in(5) && rows < MANY;
         let others = if beyond {
             rows + rng.below(3)
         } else {
-            rng.below(rows)
+            rng.below(rows.min(MANY))
         };
         for k in 0..others {
             // Fresh, or one of those that come again.
@@ -420,7 +447,7 @@ fn flood<'a>(rng: &mut Rng, log: &'a mut Log) -> Script<'a> {
             script.call(Call::TakeOut(receiver));
         }
         soup.clock += rng.next() % 900_000;
-        look(rng, &mut script, if rows == 64 { 20 } else { 8 });
+        look(rng, &mut script, if rows >= 64 { 20 } else { 8 });
     }
     script
 }
@@ -638,6 +665,19 @@ fn linked(rng: &mut Rng, watch: &mut Watch) {
     watch.free = free.first().copied();
 }
 
+/// A watch of any rows that passes both first questions, some words of its cells junk.
+pub fn any_watch(rng: &mut Rng, rows: usize) -> Watch {
+    let mut watch = Watch::fresh(rows);
+    for (at, key) in keys(rng, rows).into_iter().enumerate() {
+        watch.rows[at] = any_row(rng, key);
+        for _ in 0..rng.below(6) {
+            watch.cells[CELLS * at + rng.below(CELLS)] = rng.next() as u32;
+        }
+    }
+    linked(rng, &mut watch);
+    watch
+}
+
 /// A lent watch that passes both first questions, free rows and their cells full of junk, and the
 /// times at which its rows are judged.
 fn good(rng: &mut Rng, rows: usize) -> (Watch, Vec<(Key, u64, u64)>) {
@@ -651,7 +691,8 @@ fn good(rng: &mut Rng, rows: usize) -> (Watch, Vec<(Key, u64, u64)>) {
             key
         };
         watch.rows[at] = any_row(rng, key);
-        if rng.one_in(2) {
+        // Half of a few rows, some of many.
+        if rng.below(rows.max(8)) < 4 {
             let maker = WAYS[rng.below(WAYS.len())].1;
             let case = Case::new(rng, maker);
             watch.cells[CELLS * at..][..CELLS].copy_from_slice(&case.cells[..]);
@@ -671,8 +712,8 @@ fn good(rng: &mut Rng, rows: usize) -> (Watch, Vec<(Key, u64, u64)>) {
 fn lent<'a>(rng: &mut Rng, log: &'a mut Log) -> Script<'a> {
     let mut script = Script::new(1, log);
     while script.calls() < script.log.length / 4 {
-        let rows = rng.int(1, 4) as usize;
-        let (watch, times) = good(rng, rows);
+        let few = rng.int(1, 4) as usize;
+        let (watch, times) = good(rng, script.log.size.unwrap_or(few));
         let mut soup = Soup::new(rng, 2);
         soup.keys.extend(watch.rows.iter().map(|row| row.key));
         script.lend(watch);
@@ -745,20 +786,14 @@ fn spoil(rng: &mut Rng, watch: &mut Watch) {
 fn junk<'a>(rng: &mut Rng, log: &'a mut Log) -> Script<'a> {
     let mut script = Script::new(1, log);
     while script.calls() < script.log.length / 2 {
-        let rows = rng.int(1, 6) as usize;
+        let few = rng.int(1, 6) as usize;
+        let rows = script.log.size.unwrap_or(few);
         if script.log.empty && rng.one_in(30) {
             script.lend(Watch::lent(0, rng.pick(&[0, 1, CELLS])));
             script.call(rng.pick(&[Call::Fresh, Call::Drop, Call::Check([7; 32])]));
             script.look();
         }
-        let mut watch = Watch::fresh(rows);
-        for (at, key) in keys(rng, rows).into_iter().enumerate() {
-            watch.rows[at] = any_row(rng, key);
-            for _ in 0..rng.below(6) {
-                watch.cells[CELLS * at + rng.below(CELLS)] = rng.next() as u32;
-            }
-        }
-        linked(rng, &mut watch);
+        let mut watch = any_watch(rng, rows);
         for _ in 0..rng.int(1, 2) {
             spoil(rng, &mut watch);
         }

@@ -4,24 +4,9 @@
 use std::fmt::Write;
 
 use oracle::{Claim, Key, Run, State};
+use siting::list::{self, Fields, float, long, maybe, short};
 
-use crate::report::unhex;
 use crate::watch::{Answer, Call, Link, Row, Watch};
-
-/// A key without the zeros in front.
-pub fn short(key: &Key) -> String {
-    let digits = long(key);
-    match digits.trim_start_matches('0') {
-        "" => "0".to_string(),
-        short => short.to_string(),
-    }
-}
-
-/// A key as it is answered.
-fn long(key: &Key) -> String {
-    key.iter()
-        .fold(String::new(), |text, byte| text + &format!("{byte:02x}"))
-}
 
 /// A float: a decimal with a point where at most 15 digits say it exactly, else its bits.
 pub fn real(x: f64) -> String {
@@ -124,6 +109,15 @@ impl Answer {
         }
     }
 
+    /// The key that it carries.
+    pub fn key(&self) -> Option<Key> {
+        match self {
+            Self::Claimed(_, key) => *key,
+            Self::Freed(key) => Some(*key),
+            _ => None,
+        }
+    }
+
     /// The answer's line.
     pub fn line(&self) -> String {
         match self {
@@ -196,63 +190,6 @@ pub fn lend(watch: &Watch) -> String {
     text + &format!("ends {first} {last} {free}\n")
 }
 
-/// The fields of a line, read in turn; a fault says the field's name.
-struct Fields<'a>(std::str::Split<'a, char>);
-
-impl<'a> Fields<'a> {
-    /// The next field.
-    fn text(&mut self, name: &str) -> Result<&'a str, String> {
-        self.0.next().ok_or(format!("{name} missing"))
-    }
-
-    /// A field that `read` understands.
-    fn read<T>(&mut self, name: &str, read: impl Fn(&str) -> Option<T>) -> Result<T, String> {
-        let text = self.text(name)?;
-        read(text).ok_or(format!("{name} is not understood"))
-    }
-
-    /// A number.
-    fn number<T: std::str::FromStr>(&mut self, name: &str) -> Result<T, String> {
-        self.read(name, |text| text.parse().ok())
-    }
-
-    /// A number or a dash.
-    fn maybe<T: std::str::FromStr>(&mut self, name: &str) -> Result<Option<T>, String> {
-        self.read(name, maybe)
-    }
-
-    /// A key.
-    fn key(&mut self) -> Result<Key, String> {
-        self.read("KEY", key)
-    }
-}
-
-/// A value, or none for a dash.
-fn maybe<T: std::str::FromStr>(text: &str) -> Option<Option<T>> {
-    if text == "-" {
-        return Some(None);
-    }
-    text.parse().ok().map(Some)
-}
-
-/// A key of up to 64 hex digits.
-fn key(text: &str) -> Option<Key> {
-    if text.is_empty() || text.len() > 64 || !text.bytes().all(|b| b.is_ascii_hexdigit()) {
-        return None;
-    }
-    let digits = format!("{text:0>64}");
-    let mut key = [0; 32];
-    for (at, byte) in key.iter_mut().enumerate() {
-        *byte = u8::from_str_radix(&digits[2 * at..][..2], 16).ok()?;
-    }
-    Some(key)
-}
-
-/// A float: 16 hex digits, or a decimal with a point.
-fn float(text: &str) -> Option<f64> {
-    unhex(text).or_else(|| text.parse().ok().filter(|_| text.contains('.')))
-}
-
 /// LAT,LON,ALT, or none.
 fn site(text: &str) -> Option<Option<Claim>> {
     if text == "-" {
@@ -322,37 +259,43 @@ fn fields(f: &mut Fields) -> Result<Line, String> {
             let ends = [f.maybe("FIRST")?, f.maybe("LAST")?, f.maybe("FREE")?];
             return Ok(Line::Ends(ends));
         }
-        "fresh" => Call::Fresh,
-        "drop" => Call::Drop,
-        "check" => Call::Check(f.key()?),
-        "takeout" => Call::TakeOut(f.key()?),
-        "claim" => {
-            let key = f.key()?;
-            let lat = f.text("LAT")?;
-            if lat == "-" {
-                Call::Claim(key, None)
-            } else {
-                let lat = float(lat).ok_or("LAT is not understood")?;
-                let at = (lat, f.read("LON", float)?);
-                let alt_m = f.maybe("ALT")?;
-                Call::Claim(key, Some(Claim { at, alt_m }))
-            }
-        }
-        "position" => Call::Position {
-            key: f.key()?,
-            at: (f.read("LAT", float)?, f.read("LON", float)?),
-            feet: f.maybe("FEET")?,
-            address: f.number("ADDRESS")?,
-            at_ms: f.number("AT_MS")?,
-        },
-        "judging" => Call::Judging {
-            key: f.key()?,
-            now_ms: f.number("NOW_MS")?,
-            aircraft: f.number("AIRCRAFT")?,
-        },
-        word => return Err(format!("unknown call '{word}'")),
+        word => list::Call::read(word, f)?,
     };
-    Ok(Line::Call(call))
+    Ok(Line::Call(call.into()))
+}
+
+impl From<list::Call> for Call {
+    fn from(call: list::Call) -> Self {
+        match call {
+            list::Call::Fresh => Self::Fresh,
+            list::Call::DropOldest => Self::Drop,
+            list::Call::Check(key) => Self::Check(key),
+            list::Call::TakeOut(key) => Self::TakeOut(key),
+            list::Call::Claim(key, site) => Self::Claim(
+                key,
+                site.map(|site| Claim {
+                    at: (site.lat, site.lon),
+                    alt_m: site.alt_m,
+                }),
+            ),
+            list::Call::Position(key, heard) => Self::Position {
+                key,
+                at: (heard.lat, heard.lon),
+                feet: heard.feet,
+                address: heard.address,
+                at_ms: heard.at_ms,
+            },
+            list::Call::Judging {
+                key,
+                now_ms,
+                aircraft,
+            } => Self::Judging {
+                key,
+                now_ms,
+                aircraft,
+            },
+        }
+    }
 }
 
 /// What a list is answered by.
@@ -407,12 +350,9 @@ impl Table for Watch {
 
 /// Answers a line, if it has an answer; the error says what cannot be read.
 fn answer<T: Table>(watch: &mut T, line: &str) -> Result<Option<String>, String> {
-    let text = line.split('#').next().unwrap_or("").trim_end();
-    let mut rest = Fields(text.split(' '));
+    let mut rest = Fields::of(line);
     let line = fields(&mut rest)?;
-    if rest.0.next().is_some() {
-        return Err("unexpected field".to_string());
-    }
+    rest.end()?;
     match line {
         Line::Nothing => {}
         Line::Call(call) => return Ok(Some(watch.call(&call).line())),

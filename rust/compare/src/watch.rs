@@ -132,9 +132,10 @@ impl Watch {
     /// Question 2; the chains where it is answered "yes".
     pub fn order(&self) -> Option<Order> {
         let (used, free) = (self.chain(self.first)?, self.chain(self.free)?);
-        let mut all = [&used[..], &free[..]].concat();
-        all.sort_unstable();
-        let once = all.iter().copied().eq(0..self.rows.len());
+        let mut seen = vec![false; self.rows.len()];
+        let mut first = |row: &usize| !std::mem::replace(&mut seen[*row], true);
+        let once = used.len() + free.len() == self.rows.len()
+            && used.iter().chain(&free).all(|row| first(row));
         let link = |row: Option<&usize>| row.map(|row| *row as u32);
         let back = (0..used.len()).all(|k| {
             let before = k.checked_sub(1).and_then(|k| used.get(k));

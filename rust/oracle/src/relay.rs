@@ -7,7 +7,7 @@ use tally_wire::PublicKey;
 
 use super::super::*;
 use super::{epochs, judgment, number};
-use crate::bounded::Bounded;
+use crate::bounded::{Bounded, PAGE};
 use crate::{CELLS, Claim, Degrees, HALF, Key, Number, Relay, Run, Seen, State};
 
 /// How far apart the slots of a page lie, in bytes: seen on a map of two.
@@ -53,7 +53,8 @@ impl Relay {
             runs: BTreeMap::new(),
             rounds: Verdicts::default(),
             freed: BTreeSet::new(),
-            slots: (None, Some(stride())),
+            // Past one page an address does not tell the slot.
+            slots: (None, (rows <= PAGE).then(stride)),
         }
     }
 
