@@ -23,9 +23,8 @@ pub enum Reply {
     Bucket(u8),
     Bit(u32),
     No(u8),
+    Digest(u64),
     Wrong(Fault),
-    // The line is not served yet.
-    Unserved,
 }
 
 // How many rows and cells the watch has.

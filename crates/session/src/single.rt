@@ -56,21 +56,21 @@ pub fn answer(line: Line) -> Reply
         Line::Horizon { a, b } => Reply::Horizon(floats::horizon::horizon_km(a, b)),
         Line::Bucket(feet) => Reply::Bucket(cells::bucket(feet)),
         Line::Bit { address } => Reply::Bit(bit(address)),
-        Line::Watch { rows: _ } => Reply::Unserved,
-        Line::Call(_) => Reply::Unserved,
-        Line::Digest => Reply::Unserved,
-        Line::Lend { rows: _, cells: _ } => Reply::Unserved,
+        Line::Watch { rows: _ } => Reply::Nothing,
+        Line::Call(_) => Reply::Nothing,
+        Line::Digest => Reply::Nothing,
+        Line::Lend { rows: _, cells: _ } => Reply::Nothing,
         Line::Row {
             at: _,
             part: _,
             prev: _,
             next: _,
-        } => Reply::Unserved,
-        Line::Cell { at: _, word: _ } => Reply::Unserved,
+        } => Reply::Nothing,
+        Line::Cell { at: _, word: _ } => Reply::Nothing,
         Line::Ends {
             first: _,
             last: _,
             free: _,
-        } => Reply::Unserved,
+        } => Reply::Nothing,
     }
 }
