@@ -1,22 +1,51 @@
--- What a line is answered, and its number. No contract can say what is read or written.
+-- What a line comes to, its number, and its answer in the buffer. No contract can say what is read or written.
 use Prim.Native.Nat.{ℕ, _+_, _%_, _^_}
+use mathlib.Core.Path.{_≡_}
+use mathlib.Core.Bool.{cond}
 use mathlib.Core.List.{List}
+use lib.Dec.{ltb}
+use lib.ListN.{length}
+use Rattle.print.specs.Print.{putIn}
 use Rattle.lines.specs.declared.Line.{Line}
 use Rattle.lines.specs.declared.Line.the-variants.{At, TooLong, Nothing}
 use Rattle.grammar.specs.Lines.{lineOf}
 use Rattle.grammar.specs.declared.Fault.the-variants as fault
-use Rattle.session.specs.Replies.{replyOf}
-use Rattle.session.specs.declared.Reply.{Reply}
+use Rattle.lending.specs.Lendings.{Within, Room}
+use Rattle.session.specs.Watches.{Stays, Ran}
+use Rattle.lending.specs.declared.Size.{Size}
+use Rattle.session.specs.declared.Told.{Told}
 use Rattle.session.specs.declared.Reply.the-variants as reply
+use Rattle.answers.specs.Answers.{textOf}
+use Rattle.calls.specs.declared.input.After.{After}
+
+-- the watch lies within what is lent, which is enough for 64 rows
+pub record Lent (z : Size) (xs ys : List ℕ) : Type 0 where
+  pub within : Within z xs ys
+  pub room : Room xs ys
 
 -- a line of more than 1,024 bytes is not read
-abbrev pub replyTo : Line → List ℕ → Reply
-replyTo (At start end) bytes = replyOf (lineOf bytes .line)
-replyTo TooLong bytes = reply.Wrong fault.TooLong
-replyTo Nothing bytes = reply.Nothing
+abbrev pub CameBy : Line → List ℕ → Size → List ℕ → List ℕ → List ℕ → List ℕ → List ℕ → List ℕ → Told → Type 0
+CameBy (At start end) b z xs ys ws xs' ys' ws' r = Ran (lineOf b .line) (lineOf b .key) z xs ys ws xs' ys' ws' r
+CameBy TooLong b z xs ys ws xs' ys' ws' r = Stays (reply.Wrong fault.TooLong) z xs ys ws xs' ys' ws' r
+CameBy Nothing b z xs ys ws xs' ys' ws' r = Stays reply.Nothing z xs ys ws xs' ys' ws' r
+
+unfoldable pub Came : Line → List ℕ → Size → List ℕ → List ℕ → List ℕ → List ℕ → List ℕ → List ℕ → Told → Type 0
+Came l b z xs ys ws xs' ys' ws' r = CameBy l b z xs ys ws xs' ys' ws' r
 
 -- lines are counted, too long ones also
 abbrev pub numberOf : Line → ℕ → ℕ
 numberOf (At start end) n = (n + 1) % 2 ^ 64
 numberOf TooLong n = (n + 1) % 2 ^ 64
 numberOf Nothing n = n
+
+-- where the next answer goes: answers that fill the buffer nearly are written first
+unfoldable pub roomOf : ℕ → ℕ
+roomOf n = cond (ltb 65000 n) 0 n
+
+-- a line's answer, whole in the buffer
+pub record Answered (line : Line) (b : List ℕ) (number : ℕ) (z : Size) (xs ys ws out xs' ys' ws' out' : List ℕ) (n : ℕ) (r : After) : Type 0 where
+  pub told : Told
+  pub came : Came line b z xs ys ws xs' ys' ws' told
+  pub size : r .size ≡ told .size
+  pub end : r .n ≡ roomOf n + length (textOf told number b)
+  pub put : out' ≡ putIn out (roomOf n) (textOf told number b)

@@ -1,28 +1,37 @@
 // The list, line by line, and the answers, by a large buffer.
-use crate::write;
 use grammar::Fault;
+use lending::Size;
 use libc::STDOUT_FILENO;
 use lines::Input;
 use lines::Line;
 use session::Reply;
+use session::Told;
 ghost use mathlib.Core.Path.{_≡_};
 ghost use Prim.Native.Nat.{_≤_};
 ghost use lib.ListN.{length};
 ghost use Rattle.lines.specs.Lines.{Within};
-ghost use Rattle.grammar.specs.Lines.{lineOf};
-ghost use Rattle.calls.specs.Inputs.{replyTo, numberOf};
+ghost use Rattle.lending.specs.Lendings.{Room};
+ghost use Rattle.calls.specs.Inputs.{Lent, Came, numberOf, roomOf, Answered};
 
 pub struct State {
     pub input: Input,
+    // How large the watch is.
+    pub size: Size,
     // The bytes of answers that wait in the output's buffer.
     pub n: usize,
     // The lines that were read.
     pub lines: u64,
 }
 
+// How large the watch is, and how many bytes wait, after a line was answered.
+pub struct After {
+    pub size: Size,
+    pub n: usize,
+}
+
 // Writes the waiting answers where the buffer has little room left.
 fn room(out: &[u8], n: usize) -> usize
-    ensures { λ r. ⌜ (r ≤ n) × (r ≤ 65000) ⌝ }
+    ensures { λ r. ⌜ r ≡ roomOf n ⌝ }
 {
     if n > 65000 {
         io::write_all(STDOUT_FILENO, fields::part(out, 0, n));
@@ -32,21 +41,24 @@ fn room(out: &[u8], n: usize) -> usize
     }
 }
 
-fn asked(bytes: &[u8]) -> grammar::Line
-    ensures { λ r. ⌜ r ≡ lineOf (now (bytes .entry)) .line ⌝ }
-{
-    let said = grammar::read(bytes);
-    said.line
-}
-
-// What a line of these bytes is answered.
-fn reply_to(line: Line, bytes: &[u8]) -> Reply
-    ensures { λ r. ⌜ r ≡ replyTo line (now (bytes .entry)) ⌝ }
+// What a line of these bytes comes to.
+fn tell(
+    z: Size,
+    rows: &mut [u64],
+    cells: &mut [u32],
+    ends: &mut [u32; 3],
+    line: Line,
+    bytes: &[u8],
+) -> Told
+    requires { ⌜ Lent z (now rows) (now cells) ⌝ }
+    ensures { λ r. ⌜ Came line (now (bytes .entry)) z (now (rows .entry)) (now (cells .entry)) (now (ends .entry)) (now (rows .exit)) (now (cells .exit)) (now (ends .exit)) r × Lent (r .size) (now (rows .exit)) (now (cells .exit)) ⌝ }
 {
     match line {
-        Line::At { start: _, end: _ } => session::single::answer(asked(bytes)),
-        Line::TooLong => Reply::Wrong(Fault::TooLong),
-        Line::Nothing => Reply::Nothing,
+        Line::At { start: _, end: _ } => {
+            session::answer(z, rows, cells, ends, grammar::read(bytes))
+        }
+        Line::TooLong => session::plain(z, Reply::Wrong(Fault::TooLong)),
+        Line::Nothing => session::plain(z, Reply::Nothing),
     }
 }
 
@@ -61,44 +73,75 @@ fn number_of(line: Line, lines: u64) -> u64
     }
 }
 
-// Puts the answer to a line.
-fn answer(line: Line, bytes: &[u8], number: u64, out: &mut [u8], n: usize) -> usize
-    ensures { λ _. ⌜ length (now (out .exit)) ≡ length (now (out .entry)) ⌝ }
+// Runs a line, and puts its answer.
+fn answer(
+    z: Size,
+    rows: &mut [u64],
+    cells: &mut [u32],
+    ends: &mut [u32; 3],
+    line: Line,
+    bytes: &[u8],
+    number: u64,
+    out: &mut [u8],
+    n: usize,
+) -> After
+    requires { ⌜ Lent z (now rows) (now cells) × (65536 ≤ length (now out)) ⌝ }
+    ensures { λ r. ⌜ Answered line (now (bytes .entry)) number z (now (rows .entry)) (now (cells .entry)) (now (ends .entry)) (now (out .entry)) (now (rows .exit)) (now (cells .exit)) (now (ends .exit)) (now (out .exit)) n r × Lent (r .size) (now (rows .exit)) (now (cells .exit)) ⌝ }
 {
+    let told = tell(z, rows, cells, ends, line, bytes);
+    let size = told.size;
     let at = room(out, n);
-    write::put_reply(out, at, reply_to(line, bytes), number, bytes)
+    let m = answers::put_told(out, at, told, number, bytes);
+    After { size, n: m }
 }
 
 // Answers the next line, or reads more where no line is whole.
-fn step(s: State, buf: &mut [u8], out: &mut [u8]) -> State
-    requires { ⌜ Within (s .input) (now buf) ⌝ }
-    ensures { λ r. ⌜ Within (r .input) (now (buf .exit)) ⌝ }
+fn step(
+    s: State,
+    rows: &mut [u64],
+    cells: &mut [u32],
+    ends: &mut [u32; 3],
+    buf: &mut [u8],
+    out: &mut [u8],
+) -> State
+    requires { ⌜ Within (s .input) (now buf) × Lent (s .size) (now rows) (now cells) × (65536 ≤ length (now out)) ⌝ }
+    ensures { λ r. ⌜ Within (r .input) (now (buf .exit)) × Lent (r .size) (now (rows .exit)) (now (cells .exit)) ⌝ }
 {
     let input = s.input;
+    let z = s.size;
     let got = lines::next_line(input, buf);
     let line = got.line;
     let rest = got.input;
     let number = number_of(line, s.lines);
-    let n = answer(line, lines::bytes(line, buf), number, out, s.n);
+    let bytes = lines::bytes(line, buf);
+    let after = answer(z, rows, cells, ends, line, bytes, number, out, s.n);
+    let size = after.size;
     State {
         input: rest,
-        n,
+        size,
+        n: after.n,
         lines: number,
     }
 }
 
-// A proved loop has to end, and nothing says that the input does. So the loop counts its turns down, from a number that no run uses up.
-pub fn run(buf: &mut [u8], out: &mut [u8])
+// Before the first line there is a fresh watch of one row. A proved loop has to end, and nothing says that the input does. So the loop counts its turns down, from a number
+// that no run uses up.
+pub fn run(rows: &mut [u64], cells: &mut [u32], ends: &mut [u32; 3], buf: &mut [u8], out: &mut [u8])
+    requires { ⌜ Room (now rows) (now cells) × (65536 ≤ length (now out)) ⌝ }
     ensures { λ _. ⌜ length (now (out .exit)) ≡ length (now (out .entry)) ⌝ }
 {
+    let z = session::sized(1);
+    let first = session::open(z, rows, cells, ends, 1);
+    let size = first.size;
     let mut s = State {
         input: lines::start(),
+        size,
         n: 0,
         lines: 0,
     };
     let mut turns = u64::MAX;
     while turns > 0 && s.input.more {
-        s = step(s, buf, out);
+        s = step(s, rows, cells, ends, buf, out);
         turns -= 1;
     }
     io::write_all(STDOUT_FILENO, fields::part(out, 0, s.n));

@@ -1,25 +1,35 @@
--- `calls::input::run` meets its contract. The invariant: the bytes that wait lie within the buffer, and both buffers keep their lengths. The measure is the number of turns that are left.
+-- `calls::input::run` meets its contract. The invariant: the bytes that wait lie within the buffer, the watch within what is lent, and all that is lent keeps its length. The measure is the number of turns that are left.
 use mathlib.Core.Path.{_≡_}
+use native.Mathlib.Omega.{arith}
+use borrow.Author.Needs.{needs}
 use lib.ListN.{length}
 use Rattle.lines.specs.Lines.{Within}
-use borrow.Author.Needs.{needs}
+use Rattle.calls.specs.Inputs.{Lent}
+use Rattle.calls.proofs.Came.{opened-lent}
 use Rattle.calls.proofs.input.run.Statement.{statement}
 use Rattle.calls.proofs.input.run.Tie as tie
 
 abbrev Inv-loop : tie.InvT-loop
-Inv-loop buf₀ out₀ s₀ turns₀ buf out s turns = (Within (s .input) buf) × (length buf ≡ length buf₀) × (length out ≡ length out₀)
+Inv-loop rows₀ cells₀ ends₀ buf₀ out₀ s₀ turns₀ rows cells ends buf out s turns =
+    (Within (s .input) buf) × (Lent (s .size) rows cells) × (length rows ≡ length rows₀) × (length cells ≡ length cells₀) × (length buf ≡ length buf₀) × (length out ≡ length out₀)
 
 abbrev μ-loop : tie.MeasureT-loop
-μ-loop buf₀ out₀ s₀ turns₀ buf out s turns = turns
+μ-loop rows₀ cells₀ ends₀ buf₀ out₀ s₀ turns₀ rows cells ends buf out s turns = turns
+
+sized-requires : tie.Need-sized-requires Inv-loop μ-loop
+sized-requires c κs = search needs
+
+open-requires : tie.Need-open-requires Inv-loop μ-loop
+open-requires c κs = search needs
 
 start-requires : tie.Need-start-requires Inv-loop μ-loop
 start-requires c κs = search needs
 
 loop-holds : tie.Need-loop-holds Inv-loop μ-loop
-loop-holds c = (rw (c .start .ensures) (search needs), search needs, search needs)
+loop-holds c = (rw (c .start .ensures) (search needs), search (opened-lent, needs), search needs, search needs, search needs, search needs)
 
 step-requires : tie.Need-step-requires Inv-loop μ-loop
-step-requires c κs = search needs
+step-requires c κs = (search needs, search needs, omega arith)
 
 sub-turns : tie.Need-sub-turns Inv-loop μ-loop
 sub-turns c = search needs
@@ -42,6 +52,12 @@ same-length c = search needs
 same-length-2 : tie.Need-same-length-2 Inv-loop μ-loop
 same-length-2 c = search needs
 
+same-length-3 : tie.Need-same-length-3 Inv-loop μ-loop
+same-length-3 c = search needs
+
+same-length-4 : tie.Need-same-length-4 Inv-loop μ-loop
+same-length-4 c = search needs
+
 returns : tie.Need-returns Inv-loop μ-loop
 returns c = search needs
 
@@ -51,6 +67,8 @@ run-spec =
     (tie.spec
     Inv-loop
     μ-loop
+    sized-requires
+    open-requires
     start-requires
     loop-holds
     step-requires
@@ -61,4 +79,6 @@ run-spec =
     write-all-requires
     same-length
     same-length-2
+    same-length-3
+    same-length-4
     returns)

@@ -1,0 +1,4 @@
+pub mod Writing
+pub mod Saying
+pub mod Lengths
+pub mod Telling

@@ -1,0 +1,75 @@
+-- What a line comes to, by its kind; that the watch stays within what is lent; and that its answer is put whole.
+use mathlib.Core.Path.{_≡_, refl, sym, ap, _∙_}
+use mathlib.Core.Bool.{Bool, true, false, cond}
+use mathlib.Core.List.{List}
+use Prim.Native.Nat.{ℕ, _+_, _≤_, _<_, _*_}
+use native.Mathlib.Omega.{arith}
+use borrow.Author.Tests.{lt-ltb, le-ltb, le-leb, ltb-false}
+use lib.Dec.{ltb}
+use lib.ListN.{length}
+use Rattle.lines.specs.declared.Line.{Line}
+use Rattle.lines.specs.declared.Line.the-variants.{At, TooLong, Nothing}
+use Rattle.grammar.specs.Lines.{lineOf}
+use Rattle.grammar.specs.declared.Said.{Said}
+use Rattle.grammar.specs.declared.Fault.the-variants as fault
+use Rattle.lending.specs.Lendings.{Room}
+use Rattle.session.specs.Watches.{Ran, Opened, plainly}
+use Rattle.lending.specs.declared.Size.{Size}
+use Rattle.session.specs.declared.Told.{Told}
+use Rattle.session.specs.declared.Reply.{Reply}
+use Rattle.session.specs.declared.Reply.the-variants as reply
+use Rattle.answers.specs.Answers.{textOf, answeredIn, answeredEnd}
+use Rattle.calls.specs.declared.input.After.{After}
+use Rattle.calls.specs.Inputs.{Lent, Came, roomOf, Answered}
+
+-- ---- a line, by its kind
+pub came-at : (xs ys ws xs' ys' ws' b : List ℕ) (z : Size) (r : Told) (l : Line) (s e : ℕ) (q : Said) → l ≡ At s e → q ≡ lineOf b → Ran (q .line) (q .key) z xs ys ws xs' ys' ws' r → Came l b z xs ys ws xs' ys' ws' r
+unfolding Came
+came-at xs ys ws xs' ys' ws' b z r l s e q f g k = rw f (rw g at k)
+
+pub came-long : (xs ys ws b : List ℕ) (z : Size) (r : Told) (l : Line) → l ≡ TooLong → r ≡ plainly z (reply.Wrong fault.TooLong) → Came l b z xs ys ws xs ys ws r
+unfolding Came
+came-long xs ys ws b z r l f g = rw f (g, refl, refl, refl)
+
+pub came-none : (xs ys ws b : List ℕ) (z : Size) (r : Told) (l : Line) → l ≡ Nothing → r ≡ plainly z reply.Nothing → Came l b z xs ys ws xs ys ws r
+unfolding Came
+came-none xs ys ws b z r l f g = rw f (g, refl, refl, refl)
+
+pub plain-lent : (xs ys : List ℕ) (z : Size) (p : Reply) (r : Told) → Lent z xs ys → r ≡ plainly z p → Lent (r .size) xs ys
+plain-lent xs ys z p r h g = rw g h
+
+-- the fresh watch of one row
+pub opened-lent : (xs ys ws xs' ys' ws' : List ℕ) (z : Size) (r : Told) → Opened 1 z xs ys ws xs' ys' ws' r → Room xs ys → length xs' ≡ length xs → length ys' ≡ length ys → Lent (r .size) xs' ys'
+unfolding Opened
+opened-lent xs ys ws xs' ys' ws' z r h room lx ly = record { within = rw (h .2) (omega arith, omega arith); room = (omega arith, omega arith) }
+
+-- ---- where the answer goes
+pub room-full : (n : ℕ) → 65000 < n → 0 ≡ roomOf n
+unfolding roomOf
+room-full n h = rw (lt-ltb 65000 n h)
+
+pub room-left : (n : ℕ) → n ≤ 65000 → n ≡ roomOf n
+unfolding roomOf
+room-left n h = rw (le-ltb 65000 n h)
+
+-- an answer starts 128 bytes before the buffer's end, or earlier: it is put whole
+room-enough : (out : List ℕ) (n : ℕ) → 65536 ≤ length out → roomOf n + 128 ≤ length out
+unfolding roomOf
+room-enough out n h = by (ltb 65000 n) refl where
+  by : (b : Bool) → ltb 65000 n ≡ b → cond b 0 n + 128 ≤ length out
+  by true e = omega arith
+  by false e = omega (arith, ltb-false 65000 n e)
+
+module _ (line : Line) (b : List ℕ) (number : ℕ) (z : Size) (xs ys ws out xs' ys' ws' out' : List ℕ) (n at m : ℕ) (told : Told) where
+  pub answered-is : Came line b z xs ys ws xs' ys' ws' told → at ≡ roomOf n → 65536 ≤ length out → m ≡ answeredEnd out at (textOf told number b) → out' ≡ answeredIn out at (textOf told number b)
+      → Answered line b number z xs ys ws out xs' ys' ws' out' n (record { size = told .size; n = m })
+  unfolding answeredEnd answeredIn
+  answered-is e f h i j =
+      let t = le-leb (roomOf n + 128) (length out) (room-enough out n h) in
+      record {
+        told = told;
+        came = e;
+        size = refl;
+        end = i ∙ (rw (f, t));
+        put = j ∙ (rw (f, t));
+      }
