@@ -1,7 +1,7 @@
 -- The digest of a whole watch: rows and cells are mixed in one by one, and what is left to mix comes to the same as all at first.
-use mathlib.Core.Path.{_≡_, refl, sym, ap, _∙_, subst}
+use mathlib.Core.Path.{_≡_, refl, sym, ap, _∙_}
 use mathlib.Core.List.{List, [], _∷_, _++_, map}
-use Prim.Native.Nat.{ℕ, suc, _+_, _*_, _%_, _/_, _≤_, _<_}
+use Prim.Native.Nat.{ℕ, _+_, _*_, _%_, _/_, _≤_, _<_}
 use native.Mathlib.Omega.{arith}
 use native.Mathlib.Nat.{mul-mod-right, mul-div-cancel-left}
 use native.Mathlib.Numerals.{add-one}

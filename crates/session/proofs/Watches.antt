@@ -3,7 +3,7 @@ use mathlib.Core.Path.{_≡_, refl, sym, ap, _∙_}
 use mathlib.Core.List.{List, _++_}
 use Prim.Native.Nat.{ℕ, _*_, _≤_, _<_}
 use borrow.Author.Tests.{le-leb, lt-leb, leb-true}
-use lib.ListN.{length, take, drop, replicate}
+use lib.ListN.{length, take, drop}
 use lib.Seq.{take-at, drop-at, length-take-le}
 use lib.Dec.{leb}
 use native.Mathlib.Omega.{arith}
@@ -31,9 +31,7 @@ use Rattle.watch.specs.declared.Word.the-variants as word
 use Rattle.session.specs.Replies.{replyOf}
 use Rattle.lending.specs.declared.Size.{Size}
 use Rattle.lending.specs.declared.Outcome.{Outcome}
-use Rattle.lending.specs.declared.Outcome.the-variants as outcome
 use Rattle.lending.specs.declared.Change.{Change}
-use Rattle.lending.specs.declared.Change.the-variants as change
 use Rattle.lending.specs.declared.Changed.{Changed}
 use Rattle.lending.specs.Digests.{digestOf}
 use Rattle.lending.specs.Lendings.{Within, lentTo, Room, noEnds, Applied}
