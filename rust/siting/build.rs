@@ -23,15 +23,14 @@ fn make(root: &Path, archive: &Path) {
             "Let SITING_LIB_DIR name the folder of a libsiting.a that `rt staticlib siting` made there.",
         ]);
     }
-    println!(
-        "cargo::warning=siting: {there}; `rt staticlib siting` makes it, some minutes from nothing"
-    );
     let made = Command::new("rt")
         .args(["staticlib", "siting"])
         .current_dir(root)
         .status();
     match made {
-        Ok(status) if status.success() && archive.is_file() => {}
+        Ok(status) if status.success() && archive.is_file() => {
+            println!("cargo::warning=libsiting.a was not there: `rt staticlib siting` has made it");
+        }
         Ok(status) => missing(&[
             &there,
             &format!("and `rt staticlib siting` did not make it ({status})."),
