@@ -134,7 +134,7 @@ fn glance_row(row: Row, key: [u8; 32]) -> Glance
     Glance {
         prev: row.prev,
         next: row.next,
-        sound: receiver::row::fits(part),
+        sound: rows::part_fits(part),
         same: rows::same_key(key, k),
     }
 }

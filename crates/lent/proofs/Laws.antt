@@ -103,15 +103,6 @@ fits-by : (b x t u : Bool) → t ≡ (b && not x) → u ≡ not t → u ≡ cond
 fits-by true x t u e f = f ∙ ap not e ∙ not-not x
 fits-by false x t u e f = f ∙ ap not e
 
-pub found-now : (f at : ℕ) (s t u : Bool) → t ≡ eqb f NONE → u ≡ (t && s) → u ≡ true → at ≡ firstFound f at s
-found-now f at s t u et eu h =
-    let b = sym eu ∙ h in
-    sym (ap₂ {C = ℕ} (λ (x y : Bool). cond x (cond y at NONE) f) (sym et ∙ and-1 t s b) (and-2 t s b))
-
-pub found-before : (f at : ℕ) (s t u : Bool) → t ≡ eqb f NONE → u ≡ (t && s) → u ≡ false → f ≡ firstFound f at s
-found-before f at s true u et eu h = eqb-true f NONE (sym et) ∙ sym (ap₂ {C = ℕ} (λ (x y : Bool). cond x (cond y at NONE) f) (sym et) (sym eu ∙ h))
-found-before f at s false u et eu h = sym (ap (λ (x : Bool). cond x (cond s at NONE) f) (sym et))
-
 pub step-seen : (s : Cursor) (g : Glance) (b f u : Bool) (d : ℕ) → s .left ≢ 0 → b ≡ (s .back && not (eqb (g .prev) (s .prev))) → f ≡ not b → u ≡ (s .sound && g .sound) → d ≡ firstFound (s .found) (s .at) (g .same)
     → (row : Row) → g ≡ glanceOf (s .key) row → record { at = g .next; prev = s .at; left = s .left - 1; back = s .back; fits = f; sound = u; found = d; key = s .key } ≡ stepOf s row
 step-seen s g b f u d h eb ef eu ed row e =

@@ -8,7 +8,7 @@ ghost use Rattle.receiver.specs.Heard.{siteFits};
 ghost use Rattle.receiver.specs.Calls as calls;
 ghost use Rattle.rows.specs.Read.{watchIs, Looked};
 ghost use Rattle.rows.specs.Links.{blank, unlinkedRows, unlinkedEnds, linkedRows, linkedEnds, releasedRows, releasedEnds, touchedRows, touchedEnds, markedRows, markedEnds, roomRows, roomEnds, takenRows, takenEnds, enteredRows, enteredEnds, seatOf, seatedRows, freshFrom};
-ghost use Rattle.rows.specs.Search.{firstFound, stepOf, scanned, isNo, isUnfit, atOf};
+ghost use Rattle.rows.specs.Search.{stepOf, scanned, isNo, isUnfit, atOf};
 ghost use Rattle.flat.specs.Words.{keyOf};
 ghost use Rattle.flat.specs.Table.{rowsOf};
 ghost use Rattle.glances.specs.Glances.{glanceOf};
@@ -16,6 +16,9 @@ ghost use Rattle.moves.specs.Answers.{outcome};
 ghost use Rattle.moves.specs.Moves.{ClaimedRow, HeardRow, judgedAs, judgedRows, checkedAs, removeMove, removedRows};
 ghost use Rattle.lent.specs.Refusal.{Untouched};
 use glances::Glance;
+use moves::Answer;
+use moves::Count;
+use moves::Move;
 use near_field::Judgment;
 use receiver::Heard;
 use receiver::Part;
@@ -27,9 +30,6 @@ use rows::Look;
 use rows::Row;
 use rows::Seat;
 use sites::Claimed;
-use moves::Answer;
-use moves::Count;
-use moves::Move;
 
 // ---- steps on the chains
 
@@ -131,14 +131,6 @@ fn place(s: Cursor) -> u32
     s.at
 }
 
-// The first row with the key: the one found before, or this one.
-fn first_found(found: u32, at: u32, same: bool) -> u32
-    ensures { λ r. ⌜ r ≡ firstFound found at same ⌝ }
-{
-    let first = rows::both(rows::is_none(found), same);
-    if first { at } else { found }
-}
-
 // A step along a chain, by what was seen of the row.
 fn step_by(s: Cursor, g: Glance) -> Cursor
     ensures { λ r. ⌜ ((row : Row) → g ≡ glanceOf (s .key) row → r ≡ stepOf s row) ⌝ }
@@ -151,7 +143,7 @@ fn step_by(s: Cursor, g: Glance) -> Cursor
     let broken = rows::both(s.back, g.prev != s.prev);
     let fits = rows::negated(broken);
     let sound = rows::both(s.sound, g.sound);
-    let found = first_found(s.found, s.at, g.same);
+    let found = rows::first_found(s.found, s.at, g.same);
     Cursor {
         at: g.next,
         prev: s.at,

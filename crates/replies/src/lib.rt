@@ -7,6 +7,8 @@ ghost use Rattle.flat.specs.Words.{keyOf};
 ghost use Rattle.moves.specs.Answers.{answerIs};
 ghost use Rattle.replies.specs.Replies.{altitudeBy, siteBy, feetBy, evidenceWord, plain, keyed, judgmentWords, stateWords, generationWords, answerWords};
 use cells::Height;
+use moves::Answer;
+use moves::Word;
 use near_field::Evidence;
 use near_field::Judgment;
 use receiver::CheckState;
@@ -14,8 +16,6 @@ use rows::Key;
 use sites::Altitude;
 use sites::Claimed;
 use sites::Site;
-use moves::Answer;
-use moves::Word;
 
 // ---- arguments
 

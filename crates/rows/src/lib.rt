@@ -311,7 +311,7 @@ pub fn both(a: bool, b: bool) -> bool
 }
 
 // Question 2, of one row: the held site is within degrees, and the held distance a step of 5 from 5 to 800.
-fn part_fits(part: Part) -> bool
+pub fn part_fits(part: Part) -> bool
     ensures { λ r. ⌜ r ≡ fits part ⌝ }
 {
     let heard = part.heard;
@@ -326,7 +326,7 @@ fn back_fits(b: bool, x: u32, p: u32) -> bool
     if b { x == p } else { true }
 }
 
-fn first_found(f: u32, at: u32, t: bool) -> u32
+pub fn first_found(f: u32, at: u32, t: bool) -> u32
     ensures { λ r. ⌜ r ≡ firstFound f at t ⌝ }
 {
     let n = is_none(f);

@@ -1,8 +1,8 @@
 // The seven calls on the watch that is lent: the first 23 × C words of the rows, the first N cells, and the ends.
 use grammar::Call;
 use lending::Size;
-use rows::Key;
 use moves::Answer;
+use rows::Key;
 ghost use mathlib.Core.Path.{_≡_};
 ghost use Prim.Native.Nat.{_*_, _≤_};
 ghost use lib.ListN.{length};

@@ -4,8 +4,8 @@ use borrow.Author.Needs.{needs}
 use Rattle.glances.proofs.glance_row.Statement.{statement}
 use Rattle.glances.proofs.glance_row.Tie as tie
 
-fits-requires : tie.Need-fits-requires
-fits-requires c κs = search needs
+part-fits-requires : tie.Need-part-fits-requires
+part-fits-requires c κs = search needs
 
 same-key-requires : tie.Need-same-key-requires
 same-key-requires c κs = search needs
@@ -14,4 +14,4 @@ returns : tie.Need-returns
 returns c = search (glance-row-is, needs)
 
 pub glance-row-spec : {M : Type 1} → statement M
-glance-row-spec = tie.close (tie.spec fits-requires same-key-requires returns)
+glance-row-spec = tie.close (tie.spec part-fits-requires same-key-requires returns)
