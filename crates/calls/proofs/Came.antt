@@ -7,6 +7,8 @@ use native.Mathlib.Omega.{arith}
 use borrow.Author.Tests.{lt-ltb, le-ltb, le-leb, ltb-false}
 use lib.Dec.{ltb}
 use lib.ListN.{length}
+use Rattle.lines.specs.Lines.{takenOf, Next, bytesOf}
+use Rattle.lines.specs.declared.Step.{Step}
 use Rattle.lines.specs.declared.Line.{Line}
 use Rattle.lines.specs.declared.Line.the-variants.{At, TooLong, Nothing}
 use Rattle.grammar.specs.Lines.{lineOf}
@@ -20,7 +22,8 @@ use Rattle.session.specs.declared.Reply.{Reply}
 use Rattle.session.specs.declared.Reply.the-variants as reply
 use Rattle.answers.specs.Answers.{textOf, answeredIn, answeredEnd}
 use Rattle.calls.specs.declared.input.After.{After}
-use Rattle.calls.specs.Inputs.{Lent, Came, roomOf, Answered}
+use Rattle.calls.specs.declared.input.State.{State}
+use Rattle.calls.specs.Inputs.{Lent, Came, numberOf, roomOf, Answered, Stepped}
 
 -- ---- a line, by its kind
 pub came-at : (xs ys ws xs' ys' ws' b : List ℕ) (z : Size) (r : Told) (l : Line) (s e : ℕ) (q : Said) → l ≡ At s e → q ≡ lineOf b → Ran (q .line) (q .key) z xs ys ws xs' ys' ws' r → Came l b z xs ys ws xs' ys' ws' r
@@ -73,3 +76,15 @@ module _ (line : Line) (b : List ℕ) (number : ℕ) (z : Size) (xs ys ws out xs
         end = i ∙ (rw (f, t));
         put = j ∙ (rw (f, t));
       }
+
+pub stepped-is : (s : State) (buf xs ys ws out buf' xs' ys' ws' out' b : List ℕ) (got : Step) (after : After) (number : ℕ) → Next (s .input) (takenOf (s .input) buf) got (takenOf (s .input) buf .line)
+    → number ≡ numberOf (got .line) (s .lines) → b ≡ bytesOf buf' (got .line) → Answered (got .line) b number (s .size) xs ys ws out xs' ys' ws' out' (s .n) after
+    → Stepped s buf xs ys ws out buf' xs' ys' ws' out' (record { input = got .input; size = after .size; n = after .n; lines = number })
+stepped-is s buf xs ys ws out buf' xs' ys' ws' out' b got after number h e f a =
+    record {
+      got = got;
+      after = after;
+      next = h;
+      answered = rw (e, f) at a;
+      is = rw e;
+    }

@@ -6,6 +6,8 @@ use mathlib.Core.List.{List}
 use lib.Dec.{ltb}
 use lib.ListN.{length}
 use Rattle.print.specs.Print.{putIn}
+use Rattle.lines.specs.Lines.{takenOf, Next, bytesOf}
+use Rattle.lines.specs.declared.Step.{Step}
 use Rattle.lines.specs.declared.Line.{Line}
 use Rattle.lines.specs.declared.Line.the-variants.{At, TooLong, Nothing}
 use Rattle.grammar.specs.Lines.{lineOf}
@@ -17,6 +19,7 @@ use Rattle.session.specs.declared.Told.{Told}
 use Rattle.session.specs.declared.Reply.the-variants as reply
 use Rattle.answers.specs.Answers.{textOf}
 use Rattle.calls.specs.declared.input.After.{After}
+use Rattle.calls.specs.declared.input.State.{State}
 
 -- the watch lies within what is lent, which is enough for 64 rows
 pub record Lent (z : Size) (xs ys : List ℕ) : Type 0 where
@@ -49,3 +52,11 @@ pub record Answered (line : Line) (b : List ℕ) (number : ℕ) (z : Size) (xs y
   pub size : r .size ≡ told .size
   pub end : r .n ≡ roomOf n + length (textOf told number b)
   pub put : out' ≡ putIn out (roomOf n) (textOf told number b)
+
+-- a turn: the next line is taken or more is read, and what came is answered
+pub record Stepped (s : State) (buf xs ys ws out buf' xs' ys' ws' out' : List ℕ) (r : State) : Type 0 where
+  pub got : Step
+  pub after : After
+  pub next : Next (s .input) (takenOf (s .input) buf) got (takenOf (s .input) buf .line)
+  pub answered : Answered (got .line) (bytesOf buf' (got .line)) (numberOf (got .line) (s .lines)) (s .size) xs ys ws out xs' ys' ws' out' (s .n) after
+  pub is : r ≡ record { input = got .input; size = after .size; n = after .n; lines = numberOf (got .line) (s .lines) }

@@ -11,7 +11,7 @@ ghost use Prim.Native.Nat.{_≤_};
 ghost use lib.ListN.{length};
 ghost use Rattle.lines.specs.Lines.{Within};
 ghost use Rattle.lending.specs.Lendings.{Room};
-ghost use Rattle.calls.specs.Inputs.{Lent, Came, numberOf, roomOf, Answered};
+ghost use Rattle.calls.specs.Inputs.{Lent, Came, numberOf, roomOf, Answered, Stepped};
 
 pub struct State {
     pub input: Input,
@@ -105,7 +105,7 @@ fn step(
     out: &mut [u8],
 ) -> State
     requires { ⌜ Within (s .input) (now buf) × Lent (s .size) (now rows) (now cells) × (65536 ≤ length (now out)) ⌝ }
-    ensures { λ r. ⌜ Within (r .input) (now (buf .exit)) × Lent (r .size) (now (rows .exit)) (now (cells .exit)) ⌝ }
+    ensures { λ r. ⌜ Stepped s (now (buf .entry)) (now (rows .entry)) (now (cells .entry)) (now (ends .entry)) (now (out .entry)) (now (buf .exit)) (now (rows .exit)) (now (cells .exit)) (now (ends .exit)) (now (out .exit)) r × Within (r .input) (now (buf .exit)) × Lent (r .size) (now (rows .exit)) (now (cells .exit)) ⌝ }
 {
     let input = s.input;
     let z = s.size;
