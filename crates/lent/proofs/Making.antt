@@ -1,45 +1,26 @@
--- Fresh rows over the lent words: what a turn of `fresh_rows` does, and the ways out of `fresh`. Facts on lists of rows alone.
-use mathlib.Core.Path.{_≡_, refl, sym, ap, ap₂, _∙_}
-use Prim.Native.Nat.{ℕ, _<_, _≤_, _+_, _-_, _*_}
-use native.Mathlib.Omega.{arith}
+-- The ways out of `fresh`. Facts on lists of rows alone.
+use mathlib.Core.Path.{_≡_, sym, ap, _∙_}
+use Prim.Native.Nat.{ℕ, _≤_, _*_}
 use mathlib.Core.Bool.{Bool, true, false, not, _&&_}
 use mathlib.Core.List.{List}
 use lib.Dec.{eqb, leb}
-use lib.ListN.{length, set, replicate}
+use lib.ListN.{length, replicate}
 use borrow.Author.Tests.{not-true, not-false, leb-true}
 use Rattle.table.specs.Questions.{most}
 use Rattle.table.proofs.Tests.{and-1, and-2}
 use Rattle.cells.specs.Cells.{emptyWord}
 use Rattle.receiver.specs.Heard.{width}
 use Rattle.receiver.specs.Calls.{freshCall}
-use Rattle.walks.proofs.Fill.{filled, makes-one, makes-no-more}
 use Rattle.rows.specs.declared.Row.{Row}
 use Rattle.rows.specs.declared.Ends.{Ends}
 use Rattle.rows.specs.Read.{endsOf, endsIs, watchIs}
-use Rattle.rows.specs.Links.{freshOf, freshFrom, freshEnds}
+use Rattle.rows.specs.Links.{freshFrom, freshEnds}
 use Rattle.rows.specs.Search.{sizesOf}
-use Rattle.rows.proofs.Making.{fills-all}
 use Rattle.moves.specs.declared.Word.the-variants as Wd
 use Rattle.moves.specs.declared.Answer.{Answer}
 use Rattle.moves.specs.Answers.{outcome, saying}
 use Rattle.moves.proofs.Making.{fresh-no, fresh-yes}
 
--- THE LOOP: n rows xs, of which the first i are made, ys
-abbrev pub Made : ℕ → ℕ → List Row → List Row → Type 0
-Made n i xs ys = filled (freshOf n) (n - i) i ys ≡ filled (freshOf n) n 0 xs
-
-pub made-begin : (n : ℕ) (xs : List Row) → Made n 0 xs xs
-made-begin n xs = let e : n - 0 ≡ n = omega arith in ap (λ (k : ℕ). filled (freshOf n) k 0 xs) e
-
-pub made-goes : (n i : ℕ) (xs ys zs : List Row) (r : Row) → i < n → r ≡ freshOf n i → zs ≡ set ys i r → Made n i xs ys → Made n (i + 1) xs zs
-made-goes n i xs ys zs r h e f m = ap (filled (freshOf n) (n - (i + 1)) (i + 1)) (f ∙ ap (set ys i) e) ∙ sym (makes-one (freshOf n) n i ys h) ∙ m
-
-pub made-all : (n i : ℕ) (xs ys : List Row) → n ≡ length xs → n ≤ i → Made n i xs ys → ys ≡ freshFrom n 0 n
-made-all n i xs ys e h m =
-    let l : ys ≡ filled (freshOf n) (length xs) 0 xs = sym (makes-no-more (freshOf n) n i ys h) ∙ m ∙ ap (λ (k : ℕ). filled (freshOf n) k 0 xs) e in
-    fills-all n xs ys l ∙ ap (freshFrom n 0) (sym e)
-
--- THE ENTRY
 module _ (xs : List Row) (n m : ℕ) (t u : Bool) (long : n ≡ length xs) (test : t ≡ sizesOf n m) (other : u ≡ not t) where
   sizes : t ≡ sizesOf (length xs) m
   sizes = test ∙ ap (λ (j : ℕ). sizesOf j m) long

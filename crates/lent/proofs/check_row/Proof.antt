@@ -1,6 +1,6 @@
 -- `lent::check_row` meets its contract: each way out is a law that is cited below, at what the calls came to.
 use Rattle.moves.proofs.Entries.{check-none, check-kept}
-use Rattle.lent.proofs.Laws.{test-is}
+use Rattle.chains.proofs.Laws.{test-is}
 use borrow.Author.Needs.{needs}
 use Rattle.lent.proofs.check_row.Statement.{statement}
 use Rattle.lent.proofs.check_row.Tie as tie

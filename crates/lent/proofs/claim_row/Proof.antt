@@ -1,5 +1,6 @@
 -- `lent::claim_row` meets its contract: each way out is a law that is cited below, at what the calls came to.
-use Rattle.lent.proofs.Laws.{test-is, same-words, seated-words, site-fits, claim-unfit}
+use Rattle.chains.proofs.Laws.{test-is}
+use Rattle.lent.proofs.Laws.{same-words, seated-words, site-fits, claim-unfit}
 use Rattle.moves.proofs.Entries.{claim-left, claim-kept}
 use Rattle.flat.specs.Table.{rowsOf}
 use borrow.Author.Needs.{needs}

@@ -1,5 +1,6 @@
 -- `lent::hear_row` meets its contract: each way out is a law that is cited below, at what the calls came to.
-use Rattle.lent.proofs.Laws.{test-is, same-words, counted-words, site-fits}
+use Rattle.chains.proofs.Laws.{test-is}
+use Rattle.lent.proofs.Laws.{same-words, counted-words, site-fits}
 use Rattle.moves.proofs.Entries.{hear-none, hear-left, hear-kept}
 use Rattle.flat.specs.Table.{rowsOf}
 use borrow.Author.Needs.{needs}
