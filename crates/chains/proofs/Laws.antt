@@ -107,6 +107,9 @@ module _ (ys : List Row) (s c : Cursor) (n : ℕ) (ks : List ℕ) (t : Bool) (lo
   more-is : (b : Bool) → t ≡ b → moreOf c (length ys) ≡ b
   more-is b h = ap (moreOf c) (sym long) ∙ sym test ∙ h
 
+  pub scan-within : (at : ℕ) → t ≡ true → at ≡ c .at → at < length ys
+  scan-within at h a = subst (λ (i : ℕ). i < length ys) (sym a) (goes-on ys c (more-is true h) .within)
+
   module _ (h : t ≡ true) (k : c .key ≡ keyOf ks) (at : ℕ) (g : Glance) (d : Cursor) (a : at ≡ c .at) (r : g ≡ glanceOf (keyOf ks) (getD ys at blank)) (e : (row : Row) → g ≡ glanceOf (c .key) row → d ≡ stepOf c row) where
     next-is : d ≡ stepOf c (getD ys (c .at) blank)
     next-is = e (getD ys (c .at) blank) (r ∙ ap₂ {C = Glance} (λ x i. glanceOf x (getD ys i blank)) (sym k) a)

@@ -3,12 +3,12 @@ use mathlib.Core.Path.{_≡_, refl, sym, ap, ap₂, _∙_}
 use Prim.Native.Nat.{ℕ, _+_, _-_, _*_, _<_}
 use native.Mathlib.Omega.{arith}
 use mathlib.Core.Bool.{Bool, true, false, cond, _&&_}
-use mathlib.Core.List.{List, _++_}
+use mathlib.Core.List.{List, [], _∷_, _++_}
 use borrow.Author.Tests.{leb-false}
 use lib.Dec.{leb}
 use lib.ListN.{length, getD, set, take, drop}
 use Rattle.table.specs.Machine.{same}
-use Rattle.table.specs.Rows.{NONE}
+use Rattle.table.specs.Rows.{NONE, zeroKey}
 use Rattle.table.proofs.Tests.{byBool, clash}
 use Rattle.sites.specs.declared.Claimed.{Claimed}
 use Rattle.receiver.specs.declared.Judged.{Judged}
@@ -18,8 +18,9 @@ use Rattle.receiver.specs.Verdict.{verdictFits}
 use Rattle.rows.specs.declared.Row.{Row}
 use Rattle.rows.specs.Read.{fits}
 use Rattle.rows.specs.Links.{blank, withLinks, withPart}
-use Rattle.flat.specs.Words.{wordsOfRow, keyOf, siteOf, verdictOf, rowFits, rowOf, junk, openedOf}
+use Rattle.flat.specs.Words.{wordsOfRow, bytesOf, keyOf, siteOf, verdictOf, rowFits, rowOf, junk, openedOf}
 use Rattle.flat.specs.Table.{rowsOf}
+use Rattle.flat.proofs.Returns.{junk-unfit}
 use Rattle.flat.proofs.Rows.{got, not-got, words-are, stored}
 use Rattle.glances.specs.declared.Links.{Links}
 use Rattle.glances.specs.declared.Glance.{Glance}
@@ -86,9 +87,6 @@ module _ (ws : List ℕ) (i : ℕ) (t : Bool) (e : t ≡ fitsAt ws i) where
     pub links-seen : (r : Links) → r ≡ linksOf (rowOf part) → r ≡ linksOf (getD (rowsOf ws) i blank)
     links-seen r g = g ∙ ap linksOf row-is
 
-    pub glance-seen : (k : List ℕ) (r : Glance) → r ≡ glanceOf k (rowOf part) → r ≡ glanceOf k (getD (rowsOf ws) i blank)
-    glance-seen k r g = g ∙ ap (glanceOf k) row-is
-
     -- other words in its place
     module _ (ys : List ℕ) (long : length ys ≡ 23) where
       changed : (g : Row → Row) → openedOf ys ≡ g (openedOf part) → rowsOf (take a ws ++ (ys ++ drop (z - a) (drop a ws))) ≡ set (rowsOf ws) i (g (getD (rowsOf ws) i blank))
@@ -99,6 +97,17 @@ module _ (ws : List ℕ) (i : ℕ) (t : Bool) (e : t ≡ fitsAt ws i) where
 
       pub part-changed : (p : Part) → openedOf ys ≡ withPart (openedOf part) p → rowsOf (take a ws ++ (ys ++ drop (z - a) (drop a ws))) ≡ set (rowsOf ws) i (withPart (getD (rowsOf ws) i blank) p)
       part-changed p = changed (λ r. withPart r p)
+
+-- A LOOK AT A ROW
+module _ (ws : List ℕ) (i a z : ℕ) (t : Bool) (h : i < length (rowsOf ws)) (ea : a ≡ wordsOfRow * i) (ez : z ≡ wordsOfRow * i + wordsOfRow) (e : t ≡ rowFits (take (z - a) (drop a ws))) where
+  opened-is : openedOf (take (z - a) (drop a ws)) ≡ getD (rowsOf ws) i blank
+  opened-is = got ws i a z h ea ez (openedOf (take (z - a) (drop a ws))) refl
+
+  pub look-fits : (k : List ℕ) (r : Glance) → t ≡ true → r ≡ glanceOf k (rowOf (take (z - a) (drop a ws))) → r ≡ glanceOf k (getD (rowsOf ws) i blank)
+  look-fits k r f g = g ∙ ap (glanceOf k) (sym (opened-fit (take (z - a) (drop a ws)) (sym e ∙ f)) ∙ opened-is)
+
+  pub look-junk : (k : List ℕ) (r : Glance) → t ≡ false → r ≡ glanceOf k junk → r ≡ glanceOf k (getD (rowsOf ws) i blank)
+  look-junk k r f g = g ∙ ap (glanceOf k) (sym (opened-junk (take (z - a) (drop a ws)) (sym e ∙ f)) ∙ opened-is)
 
 -- WHAT IS READ OF A ROW THAT FITS
 pub sound-is : (ws : List ℕ) (s : Claimed) (v : Judged) (x y r : Bool) → s ≡ siteOf (drop 4 ws) → v ≡ verdictOf (drop 14 ws) → x ≡ siteFits s → y ≡ verdictFits v → r ≡ (x && y) → r ≡ fits (rowOf ws .part)
@@ -111,16 +120,24 @@ links-are ws p n ep en = simp (ep, en)
 pub no-links-are : (n : ℕ) → n ≡ NONE → record { prev = n; next = n } ≡ linksOf blank
 no-links-are n e = ap (λ (m : ℕ). record { prev = m; next = m }) e
 
-pub glance-row-is : (k : List ℕ) (row : Row) (s t : Bool) → s ≡ fits (row .part) → t ≡ same k (row .key) → record { prev = row .prev; next = row .next; sound = s; same = t } ≡ glanceOf k row
+glance-row-is : (k : List ℕ) (row : Row) (s t : Bool) → s ≡ fits (row .part) → t ≡ same k (row .key) → record { prev = row .prev; next = row .next; sound = s; same = t } ≡ glanceOf k row
 glance-row-is k row s t es et = ap₂ {C = Glance} (λ u v. record { prev = row .prev; next = row .next; sound = u; same = v }) es et
 
 pub glance-is : (k : List ℕ) (row : Row) (l : Links) (s t : Bool) → l ≡ linksOf row → s ≡ fits (row .part) → t ≡ same k (row .key) → record { prev = l .prev; next = l .next; sound = s; same = t } ≡ glanceOf k row
 glance-is k row l s t el es et = ap (λ (m : Links). record { prev = m .prev; next = m .next; sound = s; same = t }) el ∙ glance-row-is k row s t es et
 
--- OPENED WHOLE
-pub glance-whole : (ks xs : List ℕ) (row : Row) (k : List ℕ) (i : ℕ) (r : Glance) → r ≡ glanceOf k row → k ≡ keyOf ks → row ≡ getD (rowsOf xs) i blank → r ≡ glanceOf (keyOf ks) (getD (rowsOf xs) i blank)
-glance-whole ks xs row k i r g e f = g ∙ ap₂ {C = Glance} glanceOf e f
+-- A WORD OUT OF ITS RANGE: the row opens as junk, whose site is not within degrees
+zeros-key : keyOf (0 ∷ 0 ∷ 0 ∷ 0 ∷ []) ≡ junk .key
+unfolding keyOf bytesOf junk zeroKey
+zeros-key = refl
 
+pub glance-junk : (k ks : List ℕ) (n : ℕ) (t : Bool) → n ≡ NONE → ks ≡ 0 ∷ 0 ∷ 0 ∷ 0 ∷ [] → t ≡ same k (keyOf ks) → record { prev = n; next = n; sound = false; same = t } ≡ glanceOf k junk
+unfolding junk
+glance-junk k ks n t en ek et =
+    let s : t ≡ same k (junk .key) = et ∙ ap (λ (z : List ℕ). same k (keyOf z)) ek ∙ ap (same k) zeros-key in
+    ap (λ (m : ℕ). record { prev = m; next = m; sound = false; same = t }) en ∙ ap₂ {C = Glance} (λ u v. record { prev = NONE; next = NONE; sound = u; same = v }) (sym junk-unfit) s
+
+-- OPENED WHOLE
 pub links-whole : (xs zs : List Row) (i p n : ℕ) (row x : Row) → row ≡ getD xs i blank → x ≡ withLinks row p n → zs ≡ set xs i x → zs ≡ set xs i (withLinks (getD xs i blank) p n)
 links-whole xs zs i p n row x a b c = c ∙ ap (set xs i) (b ∙ ap (λ (u : Row). withLinks u p n) a)
 

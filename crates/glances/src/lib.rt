@@ -2,13 +2,13 @@
 // its links or its part alone. A row with a word out of range is opened whole, and stored whole.
 ghost use mathlib.Core.Path.{_≡_};
 ghost use mathlib.Core.Bool.{true, _&&_};
-ghost use Prim.Native.Nat.{_≤_};
+ghost use Prim.Native.Nat.{_<_, _≤_};
 ghost use lib.Dec.{eqb};
 ghost use lib.ListN.{length, set, getD};
 ghost use Rattle.table.specs.Machine.{same};
 ghost use Rattle.rows.specs.Read.{fits};
 ghost use Rattle.rows.specs.Links.{blank, withLinks, withPart, nexted, preved, partedRows};
-ghost use Rattle.flat.specs.Words.{most64, keyOf, rowFits, rowOf, openedOf};
+ghost use Rattle.flat.specs.Words.{most64, keyOf, rowFits, rowOf, junk, openedOf};
 ghost use Rattle.flat.specs.Table.{rowsOf};
 ghost use Rattle.glances.specs.Glances.{fitsAt, linksOf, glanceOf};
 use receiver::Part;
@@ -125,32 +125,33 @@ fn glance_of(words: &[u64], key: &[u64; 4]) -> Glance
     }
 }
 
-// The same of a row that is opened whole.
-fn glance_row(row: Row, key: [u8; 32]) -> Glance
-    ensures { λ r. ⌜ r ≡ glanceOf key row ⌝ }
+// The same of what a row with a word out of its range opens as.
+fn junk_glance(key: &[u64; 4]) -> Glance
+    ensures { λ r. ⌜ r ≡ glanceOf (keyOf (now (key .entry))) junk ⌝ }
 {
-    let part = row.part;
-    let k = row.key;
+    let none = rows::no_row();
+    let zeros = [0u64; 4];
+    let same = same_words(&zeros, key);
     Glance {
-        prev: row.prev,
-        next: row.next,
-        sound: rows::part_fits(part),
-        same: rows::same_key(key, k),
+        prev: none,
+        next: none,
+        sound: false,
+        same: same,
     }
 }
 
-// A look at one row for the key of these four words; a row out of range is opened whole.
+// A look at one row for the key of these four words. The pass of question 2 takes one at every row.
 pub fn look_at(rows: &[u64], at: u32, key: &[u64; 4]) -> Glance
+    requires { ⌜ at < length (rowsOf (now rows)) ⌝ }
     ensures { λ r. ⌜ r ≡ glanceOf (keyOf (now (key .entry))) (getD (rowsOf (now (rows .entry))) at blank) ⌝ }
 {
-    let good = fits_at(rows, at);
+    let a = flat::start_of(at);
+    let z = flat::end_of(at);
+    let good = flat::row_fits(&rows[a..z]);
     if good {
-        let a = flat::start_of(at);
-        let z = flat::end_of(at);
         return glance_of(&rows[a..z], key);
     }
-    let row = flat::get(rows, at);
-    glance_row(row, flat::key_at(key))
+    junk_glance(key)
 }
 
 fn store_links(words: &mut [u64], p: u32, n: u32)

@@ -4,7 +4,7 @@ use borrow.Author.Needs.{needs}
 use Rattle.rows.specs.Search.{scanned}
 use Rattle.flat.specs.Words.{keyOf}
 use Rattle.flat.specs.Table.{rowsOf}
-use Rattle.chains.proofs.Laws.{scan-goes, scan-key, scan-less, scan-ends}
+use Rattle.chains.proofs.Laws.{scan-within, scan-goes, scan-key, scan-less, scan-ends}
 use Rattle.chains.proofs.scan.Statement.{statement}
 use Rattle.chains.proofs.scan.Tie as tie
 
@@ -24,7 +24,7 @@ place-requires : tie.Need-place-requires Inv-loop μ-loop
 place-requires c κs = search needs
 
 look-at-requires : tie.Need-look-at-requires Inv-loop μ-loop
-look-at-requires c κs = search needs
+look-at-requires c κs = search (scan-within, needs)
 
 step-by-requires : tie.Need-step-by-requires Inv-loop μ-loop
 step-by-requires c κs = search needs
