@@ -21,8 +21,8 @@ mul-wide c = search needs
 shared-slice-read-wide : tie.Need-shared-slice-read-wide Inv-loop μ-loop
 shared-slice-read-wide c = search needs
 
-wide-requires : tie.Need-wide-requires Inv-loop μ-loop
-wide-requires c κs = search needs
+wide32-requires : tie.Need-wide32-requires Inv-loop μ-loop
+wide32-requires c κs = search needs
 
 mix-requires : tie.Need-mix-requires Inv-loop μ-loop
 mix-requires c κs = search needs
@@ -48,7 +48,7 @@ mix-cells-spec =
     loop-holds
     mul-wide
     shared-slice-read-wide
-    wide-requires
+    wide32-requires
     mix-requires
     add-i
     loop-less
