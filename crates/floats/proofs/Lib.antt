@@ -2,5 +2,6 @@
 -- the horizon
 pub mod Literals
 pub mod Excess
+pub mod Rooted
 -- worked examples of 01
 pub mod Sheet

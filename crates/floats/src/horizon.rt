@@ -1,8 +1,9 @@
 // The radio horizon, the heights that go into it, and how far an edge is past what it allows.
 ghost use mathlib.Core.Path.{_≡_};
-ghost use lib.Ieee.{Float, binary64, add, mul};
+ghost use lib.Ieee.{binary64, add, mul};
 ghost use Rattle.root.specs.Root.{root};
-ghost use Rattle.floats.specs.Horizon.{atLeastZero, fourTwelve, horizon, allowance, antennaOf, ceilingOf, pastOf};
+ghost use Rattle.floats.specs.Horizon.{atLeastZero, fourTwelve, horizon, antennaOf, ceilingOf};
+ghost use Rattle.floats.specs.Rooted.{allowanceFrom, pastFrom};
 
 // x, or +0 where x is a NaN, negative or either zero.
 pub fn at_least_zero(x: f64) -> f64
@@ -34,7 +35,7 @@ pub fn horizon_km(antenna_m: f64, aircraft_m: f64) -> f64
 
 // What a bin's edge may be at most: 1.1 × horizon + 20. The antenna goes in by its root, which is taken once for all bins.
 pub fn allowance_km(antenna_root: f64, aircraft_m: f64) -> f64
-    ensures { λ r. ⌜ ((a : Float) → «antenna_root» ≡ root (atLeastZero a) → r ≡ allowance a «aircraft_m») ⌝ }
+    ensures { λ r. ⌜ r ≡ allowanceFrom «antenna_root» «aircraft_m» ⌝ }
 {
     1.1 * from_roots(antenna_root, root_of(aircraft_m)) + 20.0
 }
@@ -62,7 +63,7 @@ pub enum Past {
 
 // By how much an edge is past the allowance, if it is.
 pub fn past_by(edge_km: f64, antenna_root: f64, aircraft_m: f64) -> Past
-    ensures { λ r. ⌜ ((a : Float) → «antenna_root» ≡ root (atLeastZero a) → r ≡ pastOf «edge_km» a «aircraft_m») ⌝ }
+    ensures { λ r. ⌜ r ≡ pastFrom «edge_km» «antenna_root» «aircraft_m» ⌝ }
 {
     let allowed = allowance_km(antenna_root, aircraft_m);
     if edge_km > allowed {

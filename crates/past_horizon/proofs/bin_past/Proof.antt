@@ -1,10 +1,12 @@
--- Not occupied, no altitude, or past_by at the bin's edge (Bins).
+-- Not occupied, no altitude, or past_by at the bin's edge (Bins), which is 01's excess at the antenna's root (floats, Rooted).
 use mathlib.Core.Path.{sym, ap, _∙_}
 use borrow.Author.Needs.{needs}
 use lib.Ieee.{Float}
-use Rattle.floats.specs.Horizon.{pastOf}
+use Rattle.floats.specs.Rooted.{pastFrom}
+use Rattle.floats.proofs.Rooted.{past-at-root}
 use Rattle.cells.specs.declared.Cell.{Cell}
 use Rattle.cells.specs.Cells.{ceiling}
+use Rattle.past_horizon.specs.Horizon.{edgeOf}
 use Rattle.past_horizon.proofs.Bins.{unoccupied, at-height, at-no-height}
 use Rattle.past_horizon.proofs.bin_past.Statement.{statement}
 use Rattle.past_horizon.proofs.bin_past.Tie as tie
@@ -31,7 +33,7 @@ enum-told : tie.Need-enum-told
 enum-told c = search needs
 
 returns : tie.Need-returns
-returns c = λ a h. let s = c .before .before .before .before .before .before .before .before .before .args in let b = c .before .before .before .ceiling .given .0 .0 in c .past-by .ensures a h ∙ ap (λ (e : Float). pastOf e a b) (c .before .edge-km .ensures) ∙ at-height (s .w) (s .bin) a b (sym (c .before .before .before .before .before .before .before .before .occupied .ensures) ∙ c .before .before .before .before .before .before .before .if1 .taken) (sym (ap (λ (k : Cell). ceiling (k .low)) (c .before .before .before .before .before .before .unpack .ensures)) ∙ sym (c .before .before .before .before .before .ceiling-m .ensures) ∙ c .before .before .before .ceiling .given .1)
+returns c = λ a h. let s = c .before .before .before .before .before .before .before .before .before .args in let b = c .before .before .before .ceiling .given .0 .0 in c .past-by .ensures ∙ ap (λ (e : Float). pastFrom e (s .antenna-root) b) (c .before .edge-km .ensures) ∙ ap (λ (r : Float). pastFrom (edgeOf (s .bin)) r b) h ∙ past-at-root (edgeOf (s .bin)) a b ∙ at-height (s .w) (s .bin) a b (sym (c .before .before .before .before .before .before .before .before .occupied .ensures) ∙ c .before .before .before .before .before .before .before .if1 .taken) (sym (ap (λ (k : Cell). ceiling (k .low)) (c .before .before .before .before .before .before .unpack .ensures)) ∙ sym (c .before .before .before .before .before .ceiling-m .ensures) ∙ c .before .before .before .ceiling .given .1)
 
 returns-2 : tie.Need-returns-2
 returns-2 c = λ a h. let s = c .before .before .before .before .before .before .args in at-no-height (s .w) (s .bin) a (sym (c .before .before .before .before .before .occupied .ensures) ∙ c .before .before .before .before .if1 .taken) (sym (ap (λ (k : Cell). ceiling (k .low)) (c .before .before .before .unpack .ensures)) ∙ sym (c .before .before .ceiling-m .ensures) ∙ c .enum-told .given .1)
