@@ -1,12 +1,12 @@
 -- A key's 32 bytes as four words and back: eight bytes are one word of little-endian digits to the base 256.
 use mathlib.Core.Path.{_≡_, refl, sym, ap, _∙_, subst}
-use Prim.Native.Nat.{ℕ, zero, suc, _+_, _*_, _/_, _%_, _≤_}
+use Prim.Native.Nat.{ℕ, zero, suc, _+_, _*_, _/_, _%_, _≤_, _<_}
 use native.Mathlib.Omega.{arith}
 use native.Mathlib.Nat.{mod-eq-of-lt, add-mul-mod-self-left}
 use mathlib.Core.List.{List, [], _∷_, _++_}
 use lib.ListN.{length, getD, set, take, drop, length-append, length-take, length-drop, take-append-drop}
 use lib.Seq.{sets, drop-cons, take-all, drop-drop}
-use Rattle.flat.specs.Words.{wordOf, bytesOf, eight, keyWords, keyOf}
+use Rattle.flat.specs.Words.{most64, wordOf, bytesOf, eight, keyWords, keyOf}
 use Rattle.flat.specs.Ranges.{Bytes, KeyIn}
 use Rattle.flat.proofs.Runs.{runs4, over-all}
 
@@ -63,6 +63,31 @@ bytes-put l i w a b c d e f g h ea eb ec ed ee ef eg eh = put-eight l i a b c d 
     all : a ∷ b ∷ c ∷ d ∷ e ∷ f ∷ g ∷ h ∷ [] ≡ bytesOf 8 w
     all = simp (ea, eb, ec, ed, ee, ef, eg, eh)
 
+-- A WORD: its eight bytes make it again
+-- 256 to the n-th
+abbrev top : ℕ → ℕ
+top zero = 1
+top (suc n) = 256 * top n
+
+-- at most eight bytes
+grows : (n : ℕ) → n ≤ 8 → top n ≤ 18446744073709551616
+grows n h = by n 8 (omega (arith, h))
+  where
+    by : (n m : ℕ) → n ≤ m → top n ≤ top m
+    by zero zero g = omega arith
+    by zero (suc m) g = omega (arith, by zero m (omega arith))
+    by (suc n) zero g = absurd (omega arith)
+    by (suc n) (suc m) g = omega (arith, by n m (omega arith))
+
+bytes-word : (n w : ℕ) → w < top n → wordOf (bytesOf n w) ≡ w
+unfolding wordOf bytesOf
+bytes-word zero w h = omega arith
+bytes-word (suc n) w h = omega (arith, bytes-word n (w / 256) (omega arith))
+
+pub word-back : (w : ℕ) → w ≤ most64 → wordOf (bytesOf 8 w) ≡ w
+unfolding most64
+word-back w h = bytes-word 8 w (omega arith)
+
 -- A KEY
 pub key-puts : (l z k : List ℕ) (a b c d : ℕ) → a ≡ wordOf (eight k 0) → b ≡ wordOf (eight k 8) → c ≡ wordOf (eight k 16) → d ≡ wordOf (eight k 24) → z ≡ sets l 0 (a ∷ b ∷ c ∷ d ∷ []) → z ≡ sets l 0 (keyWords k)
 unfolding keyWords
@@ -115,6 +140,17 @@ eight-back : (k : List ℕ) (i : ℕ) → KeyIn k → i + 8 ≤ 32 → bytesOf 8
 eight-back k i r h =
     let m : length (eight k i) ≡ 8 = length-take 8 (drop i k) ∙ omega (arith, length-drop i k, r .long) in
     ap (λ (n : ℕ). bytesOf n (wordOf (eight k i))) (sym m) ∙ bytes-back (eight k i) (bytes-take 8 (drop i k) (bytes-drop i k (r .bytes)))
+
+word-below : (l : List ℕ) → Bytes l → wordOf l < top (length l)
+unfolding wordOf
+word-below [] h = omega arith
+word-below (b ∷ l) h = omega (arith, h .0, word-below l (h .1))
+
+pub eight-below : (k : List ℕ) (i : ℕ) → KeyIn k → wordOf (eight k i) ≤ most64
+unfolding most64
+eight-below k i r =
+    let b = word-below (eight k i) (bytes-take 8 (drop i k) (bytes-drop i k (r .bytes))) in
+    omega (arith, b, grows (length (eight k i)) (omega (arith, length-take 8 (drop i k))))
 
 -- four times eight are all
 parts : (k : List ℕ) → length k ≡ 32 → eight k 0 ++ (eight k 8 ++ (eight k 16 ++ eight k 24)) ≡ k

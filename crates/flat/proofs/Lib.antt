@@ -5,3 +5,4 @@ pub mod Keys
 pub mod Closing
 pub mod Returns
 pub mod Rows
+pub mod Closed

@@ -1,5 +1,5 @@
 -- What the words from the i-th on open as, by the tests that the code makes of them.
-use mathlib.Core.Path.{_≡_, refl, sym, ap, _∙_}
+use mathlib.Core.Path.{_≡_, refl, sym, ap, ap₂, _∙_}
 use mathlib.Core.Logic.{_≢_}
 use Prim.Native.Nat.{ℕ, _+_, _%_, _≤_, _<_}
 use native.Mathlib.Omega.{arith}
@@ -27,7 +27,7 @@ use Rattle.receiver.specs.declared.Verdict.{Verdict}
 use Rattle.receiver.specs.declared.Judged.{Judged}
 use Rattle.receiver.specs.declared.Judged.the-variants.{With}
 use Rattle.rows.specs.declared.Row.{Row}
-use Rattle.flat.specs.Words.{most32, most64, low32, keyOf, maybeFits, altitudeOf, siteOf, siteFits, idOf, lastOf, byOf, runOf, verdictOf, runFits, verdictFits, rowFits, heardOf, rowOf, junk, openedOf}
+use Rattle.flat.specs.Words.{most32, most64, low32, keyOf, wide2, zeros, maybeFits, altitudeOf, siteOf, siteFits, idOf, lastOf, byOf, runOf, verdictOf, runFits, verdictFits, rowFits, heardOf, rowOf, junk, openedOf}
 use Rattle.flat.proofs.Runs.{here, there, further}
 
 -- NUMBERS BY NAME
@@ -68,7 +68,21 @@ module _ (ws : List ℕ) (i : ℕ) where
   pub absent : {X : Type 0} (x y : X) → getD ws i 0 ≡ 0 → x ≡ cond (eqb (getD (drop i ws) 0 0) 0) x y
   absent x y h = simp (tag0 h)
 
+  pub wide2-is : (m : ℕ) (a b r : Bool) → m ≡ most64 → a ≡ leb (getD ws i 0) m → b ≡ leb (getD ws (i + 1) 0) m → r ≡ (a && b) → r ≡ wide2 (drop i ws)
+  wide2-is m a b r em ea eb er = simp (er, eb, ea, em, here ws i, there ws i 1)
+
+  -- NONE
+  pub zeros4-is : (a b c d x y r : Bool) → a ≡ eqb (getD ws i 0) 0 → b ≡ eqb (getD ws (i + 1) 0) 0 → c ≡ eqb (getD ws (i + 2) 0) 0 → d ≡ eqb (getD ws (i + 3) 0) 0 → x ≡ (a && b) → y ≡ (x && c) → r ≡ (y && d) → r ≡ zeros 4 (drop i ws)
+  zeros4-is a b c d x y r ea eb ec ed ex ey er = simp (here ws i, there ws i 1, there ws i 2, there ws i 3, er, ey, ex, ed, ec, eb, ea)
+
+  pub zeros6-is : (a b c x r : Bool) → a ≡ zeros 4 (drop i ws) → b ≡ eqb (getD ws (i + 4) 0) 0 → c ≡ eqb (getD ws (i + 5) 0) 0 → x ≡ (a && b) → r ≡ (x && c) → r ≡ zeros 6 (drop i ws)
+  zeros6-is a b c x r ea eb ec ex er = simp (er, ex, ec, eb, ea, there ws i 4, there ws i 5)
+
   -- A NUMBER OR NONE
+  pub maybe-none : (m : ℕ) → getD ws i 0 ≡ 0 → eqb (getD ws (i + 1) 0) 0 ≡ maybeFits m (drop i ws)
+  unfolding maybeFits
+  maybe-none m h = simp (tag0 h, there ws i 1)
+
   pub maybe-some : (m : ℕ) → getD ws i 0 ≡ 1 → leb (getD ws (i + 1) 0) m ≡ maybeFits m (drop i ws)
   unfolding maybeFits
   maybe-some m h = simp (tag1 h, is1 h, there ws i 1)
@@ -82,9 +96,15 @@ module _ (ws : List ℕ) (i : ℕ) where
   unfolding altitudeOf
   altitude-some z h e = simp (tag h, there ws i 1, e)
 
-  pub site-fits-some : (m : ℕ) (r : Bool) → getD ws i 0 ≡ 1 → m ≡ most32 → r ≡ maybeFits m (drop (i + 3) ws) → r ≡ siteFits (drop i ws)
+  pub site-fits-none : (r : Bool) → getD ws i 0 ≡ 0 → r ≡ zeros 4 (drop (i + 1) ws) → r ≡ siteFits (drop i ws)
   unfolding siteFits
-  site-fits-some m r h e f = f ∙ ap (λ (n : ℕ). maybeFits n (drop (i + 3) ws)) e ∙ simp (tag1 h, is1 h, further ws i 3)
+  site-fits-none r h e = e ∙ ap (zeros 4) (sym (further ws i 1)) ∙ ap (λ (b : Bool). cond b (zeros 4 (drop 1 (drop i ws))) (eqb (getD (drop i ws) 0 0) 1 && (wide2 (drop 1 (drop i ws)) && maybeFits most32 (drop 3 (drop i ws))))) (sym (tag0 h))
+
+  pub site-fits-some : (m : ℕ) (d a r : Bool) → getD ws i 0 ≡ 1 → d ≡ wide2 (drop (i + 1) ws) → m ≡ most32 → a ≡ maybeFits m (drop (i + 3) ws) → r ≡ (d && a) → r ≡ siteFits (drop i ws)
+  unfolding siteFits
+  site-fits-some m d a r h ed em ea er =
+      er ∙ ap₂ {C = Bool} (λ x y. x && y) (ed ∙ ap wide2 (sym (further ws i 1))) (ea ∙ ap (λ (n : ℕ). maybeFits n (drop (i + 3) ws)) em ∙ ap (maybeFits most32) (sym (further ws i 3)))
+      ∙ sym (ap₂ {C = Bool} (λ x y. cond x (zeros 4 (drop 1 (drop i ws))) (y && (wide2 (drop 1 (drop i ws)) && maybeFits most32 (drop 3 (drop i ws))))) (tag1 h) (is1 h))
 
   pub site-fits-other : getD ws i 0 ≢ 0 → getD ws i 0 ≢ 1 → false ≡ siteFits (drop i ws)
   unfolding siteFits
@@ -110,6 +130,10 @@ module _ (ws : List ℕ) (i : ℕ) where
       → x ≡ (c && d) → y ≡ (b && x) → r ≡ (a && y) → r ≡ runFits (drop i ws)
   unfolding runFits
   run-fits-is a b c d x y r m ea eb em ec ed ex ey er = simp (here ws i, there ws i 1, there ws i 2, there ws i 3, there ws i 6, further ws i 4, er, ey, ex, ed, ec, em, eb, ea)
+
+  pub verdict-fits-none : (r : Bool) → getD ws i 0 ≡ 0 → r ≡ zeros 6 (drop (i + 1) ws) → r ≡ verdictFits (drop i ws)
+  unfolding verdictFits
+  verdict-fits-none r h e = e ∙ ap (zeros 6) (sym (further ws i 1)) ∙ ap (λ (b : Bool). cond b (zeros 6 (drop 1 (drop i ws))) (runFits (drop i ws))) (sym (tag0 h))
 
   pub verdict-fits-some : (r : Bool) → getD ws i 0 ≢ 0 → r ≡ runFits (drop i ws) → r ≡ verdictFits (drop i ws)
   unfolding verdictFits
@@ -145,11 +169,11 @@ module _ (ws : List ℕ) where
   pub heard-is : (s : Claimed) (g : ℕ) (e o : EpochId) → s ≡ siteOf (drop 4 ws) → g ≡ low32 (getD ws 9 0) → e ≡ idOf (drop 10 ws) → o ≡ idOf (drop 12 ws) → record { site = s; generation = g; even = e; odd = o } ≡ heardOf ws
   heard-is s g e o es eg ee eo = simp (es, eg, ee, eo)
 
-  pub row-fits-is : (l s e o v x y z r : Bool) (m n : ℕ) → l ≡ (leb (getD ws 9 0) most32 && (leb (getD ws 21 0) most32 && leb (getD ws 22 0) most32)) → s ≡ siteFits (drop 4 ws)
+  pub row-fits-is : (j k w l s e o v x y z u r : Bool) (m n : ℕ) → j ≡ wide2 ws → k ≡ wide2 (drop 2 ws) → w ≡ (j && k) → l ≡ (leb (getD ws 9 0) most32 && (leb (getD ws 21 0) most32 && leb (getD ws 22 0) most32)) → s ≡ siteFits (drop 4 ws)
       → m ≡ most64 → e ≡ maybeFits m (drop 10 ws) → n ≡ most64 → o ≡ maybeFits n (drop 12 ws) → v ≡ verdictFits (drop 14 ws)
-      → x ≡ (o && v) → y ≡ (e && x) → z ≡ (s && y) → r ≡ (l && z) → r ≡ rowFits ws
+      → x ≡ (o && v) → y ≡ (e && x) → z ≡ (s && y) → u ≡ (l && z) → r ≡ (w && u) → r ≡ rowFits ws
   unfolding rowFits
-  row-fits-is l s e o v x y z r m n el es em ee en eo ev ex ey ez er = simp (er, ez, ey, ex, ev, eo, en, ee, em, es, el)
+  row-fits-is j k w l s e o v x y z u r m n ej ek ew el es em ee en eo ev ex ey ez eu er = simp (er, eu, ez, ey, ex, ew, ev, eo, en, ee, em, es, el, ek, ej)
 
   pub row-is : (k : List ℕ) (h : Heard) (v : Judged) (p n : ℕ) → k ≡ keyOf ws → h ≡ heardOf ws → v ≡ verdictOf (drop 14 ws) → p ≡ low32 (getD ws 21 0) → n ≡ low32 (getD ws 22 0)
       → record { key = k; part = record { heard = h; verdict = v }; prev = p; next = n } ≡ rowOf ws

@@ -1,18 +1,19 @@
 -- Closed and opened again, a row within its ranges is itself: a law for each part, whatever words follow, and the row's by them.
-use mathlib.Core.Path.{_≡_, refl, sym, ap, _∙_}
-use Prim.Native.Nat.{ℕ, _+_, _≤_}
+use mathlib.Core.Path.{_≡_, refl, sym, ap, _∙_, subst}
+use Prim.Native.Nat.{ℕ, _+_, _≤_, _<_}
 use native.Mathlib.Omega.{arith}
 use native.Mathlib.Nat.{mod-eq-of-lt}
-use mathlib.Core.Bool.{Bool, true, false, cond, not}
+use mathlib.Core.Bool.{Bool, true, false, cond, not, _&&_}
 use mathlib.Core.List.{List, [], _∷_, _++_, append-assoc}
 use borrow.Author.Tests.{le-leb}
-use lib.Dec.{eqb, leb}
+use lib.Dec.{T, eqb, leb}
 use lib.ListN.{getD, drop}
-use lib.Ieee.{binary64}
-use lib.Ieee.Bits.{ofBits-toBits}
+use lib.Ieee as ieee
+use lib.Ieee.{Float, binary64, toBits}
+use lib.Ieee.Bits.{ofBits-toBits, toBits-lt}
 use mir.Syntax.{w32}
 use mir.Val.{ofZ, toZ}
-use mir.ValLaws.{toZ-ofZ, ofZ-fits}
+use mir.ValLaws.{toZ-ofZ, ofZ-fits, top-pow}
 use Rattle.measures.specs.Degrees.{within}
 use Rattle.sites.specs.declared.Altitude.{Altitude}
 use Rattle.sites.specs.declared.Altitude.the-variants.{Metres, Unknown}
@@ -28,10 +29,10 @@ use Rattle.receiver.specs.declared.Judged.{Judged}
 use Rattle.receiver.specs.declared.Judged.the-variants.{With, Never}
 use Rattle.rows.specs.declared.Row.{Row}
 use Rattle.rows.specs.Read.{fits}
-use Rattle.flat.specs.Words.{most32, most64, low32, keyWords, keyOf, maybeFits, altitudeWords, altitudeOf, siteWords, siteOf, siteFits, idWords, idOf, lastWord, lastOf, byWords, byOf, verdictWords, runOf, verdictOf, runFits, verdictFits, heardWords, closedOf, rowFits, heardOf, rowOf, junk, openedOf}
+use Rattle.flat.specs.Words.{most32, most64, low32, wordOf, eight, keyWords, keyOf, wide2, maybeFits, altitudeWords, altitudeOf, siteWords, siteOf, siteFits, idWords, idOf, lastWord, lastOf, byWords, byOf, verdictWords, runOf, verdictOf, runFits, verdictFits, heardWords, closedOf, rowFits, heardOf, rowOf, junk, openedOf}
 use Rattle.flat.specs.Ranges.{AltitudeIn, SiteIn, IdIn, ByIn, VerdictIn, HeardIn, RowIn}
 use Rattle.flat.proofs.Runs.{here, there, past}
-use Rattle.flat.proofs.Keys.{key-back}
+use Rattle.flat.proofs.Keys.{key-back, eight-below}
 use Rattle.flat.proofs.Closing.{site-words, id-words, verdict-words}
 
 pub low-is : (n : ℕ) → n ≤ most32 → low32 n ≡ n
@@ -54,9 +55,13 @@ unfolding siteOf siteWords
 site-back (At s) q h = simp (ofBits-toBits binary64 (s .lat) (h .0), ofBits-toBits binary64 (s .lon) (h .1 .0), altitude-back (s .«alt_m») q (h .1 .1))
 site-back Nowhere q h = refl
 
+bits-fit : (x : Float) → T (ieee.fits binary64 x) → leb (toBits binary64 x) most64 ≡ true
+unfolding most64
+bits-fit x h = le-leb (toBits binary64 x) 18446744073709551615 (let g : toBits binary64 x < 18446744073709551616 = subst (λ (n : ℕ). toBits binary64 x < n) (top-pow binary64) (toBits-lt binary64 x h) in omega (arith, g))
+
 site-fits : (c : Claimed) (q : List ℕ) → SiteIn c → siteFits (siteWords c ++ q) ≡ true
 unfolding siteFits siteWords
-site-fits (At s) q h = altitude-fits (s .«alt_m») q (h .1 .1)
+site-fits (At s) q h = simp (bits-fit (s .lat) (h .0), bits-fit (s .lon) (h .1 .0), altitude-fits (s .«alt_m») q (h .1 .1))
 site-fits Nowhere q h = refl
 
 -- EPOCH ID
@@ -141,6 +146,10 @@ pub record RestIn (r : Row) : Type 0 where
   pub prev : r .prev ≤ most32
   pub next : r .next ≤ most32
 
+-- the tests of all words but the key's
+abbrev rest-fits : List ℕ → Bool
+rest-fits ws = (leb (getD ws 9 0) most32 && (leb (getD ws 21 0) most32 && leb (getD ws 22 0) most32)) && (siteFits (drop 4 ws) && (maybeFits most64 (drop 10 ws) && (maybeFits most64 (drop 12 ws) && verdictFits (drop 14 ws))))
+
 module _ (words : List ℕ) (r : Row) (rest : drop 4 words ≡ heardWords (r .part .heard) ++ verdictOn r) where
   from4 : drop 4 words ≡ siteOn r
   unfolding heardWords
@@ -173,9 +182,9 @@ module _ (words : List ℕ) (r : Row) (rest : drop 4 words ≡ heardWords (r .pa
   at22 : getD words 22 0 ≡ r .next
   at22 = sym (there words 21 1) ∙ ap (λ (l : List ℕ). getD l 1 0) from21
 
-  words-fit : RestIn r → rowFits words ≡ true
+  words-fit : RestIn r → (wide2 words && wide2 (drop 2 words)) ≡ true → rowFits words ≡ true
   unfolding rowFits
-  words-fit h = simp (
+  words-fit h key = ap (λ (b : Bool). b && rest-fits words) key ∙ simp (
     at9,
     at21,
     at22,
@@ -205,13 +214,13 @@ module _ (words : List ℕ) (r : Row) (rest : drop 4 words ≡ heardWords (r .pa
   )
 
   -- of the key, whatever its words are
-  pub opened-words : (k : List ℕ) → RestIn r → keyOf words ≡ k → openedOf words ≡ record { key = k; part = r .part; prev = r .prev; next = r .next }
+  pub opened-words : (k : List ℕ) → RestIn r → (wide2 words && wide2 (drop 2 words)) ≡ true → keyOf words ≡ k → openedOf words ≡ record { key = k; part = r .part; prev = r .prev; next = r .next }
   unfolding openedOf rowOf
-  opened-words k h e =
+  opened-words k h w e =
       let v : verdictOf (drop 14 words) ≡ r .part .verdict = ap verdictOf from14 ∙ verdict-back (r .part .verdict) (links r) (h .verdict) in
       let p : low32 (getD words 21 0) ≡ r .prev = ap low32 at21 ∙ low-is (r .prev) (h .prev) in
       let n : low32 (getD words 22 0) ≡ r .next = ap low32 at22 ∙ low-is (r .next) (h .next) in
-      simp (words-fit h, e, heard-back h, v, p, n)
+      simp (words-fit h w, e, heard-back h, v, p, n)
 
 -- THE LAW OF RETURN
 closed-rest : (r : Row) → drop 4 (closedOf r) ≡ heardWords (r .part .heard) ++ verdictOn r
@@ -222,8 +231,12 @@ closed-key : (r : Row) → RowIn r → keyOf (closedOf r) ≡ r .key
 unfolding closedOf
 closed-key r h = key-back (r .key) (heardWords (r .part .heard) ++ verdictOn r) (h .key)
 
+closed-wide : (r : Row) → RowIn r → (wide2 (closedOf r) && wide2 (drop 2 (closedOf r))) ≡ true
+unfolding closedOf keyWords
+closed-wide r h = simp (le-leb (wordOf (eight (r .key) 0)) most64 (eight-below (r .key) 0 (h .key)), le-leb (wordOf (eight (r .key) 8)) most64 (eight-below (r .key) 8 (h .key)), le-leb (wordOf (eight (r .key) 16)) most64 (eight-below (r .key) 16 (h .key)), le-leb (wordOf (eight (r .key) 24)) most64 (eight-below (r .key) 24 (h .key)))
+
 pub opened-closed : (r : Row) → RowIn r → openedOf (closedOf r) ≡ r
-opened-closed r h = opened-words (closedOf r) r (closed-rest r) (r .key) (record { heard = h .heard; verdict = h .verdict; prev = h .prev; next = h .next }) (closed-key r h)
+opened-closed r h = opened-words (closedOf r) r (closed-rest r) (r .key) (record { heard = h .heard; verdict = h .verdict; prev = h .prev; next = h .next }) (closed-wide r h) (closed-key r h)
 
 -- question 2 refuses a row whose words are out of range
 pub junk-unfit : fits (junk .part) ≡ false

@@ -139,7 +139,7 @@ pub record Has (ws : List ℕ) (i : ℕ) : Type 0 where
   pub even : length ws % wordsOfRow ≡ 0
   pub within : i < length ws / wordsOfRow
 
-has : (ws : List ℕ) (i : ℕ) → i < length (rowsOf ws) → Has ws i
+pub has : (ws : List ℕ) (i : ℕ) → i < length (rowsOf ws) → Has ws i
 unfolding rowsOf
 has ws i h = by (eqb (length ws % wordsOfRow) 0) refl h
   where
@@ -150,7 +150,7 @@ has ws i h = by (eqb (length ws % wordsOfRow) 0) refl h
 room-for : (ws : List ℕ) (n i : ℕ) → length ws ≡ n * wordsOfRow → i < n → wordsOfRow * i + wordsOfRow ≤ length ws
 room-for ws n i e h = omega (arith, e, mul-le-mul-right wordsOfRow h)
 
-whole : (ws : List ℕ) (i : ℕ) → Has ws i → length ws ≡ length ws / wordsOfRow * wordsOfRow
+pub whole : (ws : List ℕ) (i : ℕ) → Has ws i → length ws ≡ length ws / wordsOfRow * wordsOfRow
 whole ws i h = sym (div-add-mod' (length ws) wordsOfRow) ∙ omega (arith, h .even)
 
 -- a number that is a row's, by the test

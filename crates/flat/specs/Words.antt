@@ -1,6 +1,6 @@
 -- A row as 23 numbers of 64 bits, in this order: key, four little-endian words; site: 0, or 1 and the bits of lat and lon, then the altitude: 0, or 1 and
 -- its 32 bits; generation; even id and odd id: 0, or 1 and the id; verdict: 0, or 1, last, wrongs, others, distance (0, or 1 and it), moved; before; after.
--- Words of what is absent are written as 0 and not read. Definitions only.
+-- Words of what is absent are 0: none is zeros of the same length. Definitions only.
 use Prim.Native.Nat.{ℕ, zero, suc, _+_, _*_, _/_, _%_, _^_}
 use mathlib.Core.Bool.{Bool, true, cond, not, _&&_}
 use mathlib.Core.List.{List, [], _∷_, _++_}
@@ -42,6 +42,10 @@ at ws i = getD ws i 0
 abbrev pub low32 : ℕ → ℕ
 low32 w = w % 2 ^ 32
 
+-- two words of 64 bits
+abbrev pub wide2 : List ℕ → Bool
+wide2 ws = leb (at ws 0) most64 && leb (at ws 1) most64
+
 -- KEY
 unfoldable pub wordOf : List ℕ → ℕ
 wordOf [] = 0
@@ -61,9 +65,14 @@ keyWords k = wordOf (eight k 0) ∷ wordOf (eight k 8) ∷ wordOf (eight k 16) �
 unfoldable pub keyOf : List ℕ → List ℕ
 keyOf ws = bytesOf 8 (at ws 0) ++ (bytesOf 8 (at ws 1) ++ (bytesOf 8 (at ws 2) ++ bytesOf 8 (at ws 3)))
 
--- A NUMBER OR NONE: 0, or 1 and a number that is at most so much
+-- NONE: zeros, so many
+abbrev pub zeros : ℕ → List ℕ → Bool
+zeros zero ws = true
+zeros (suc n) ws = zeros n ws && eqb (at ws n) 0
+
+-- A NUMBER OR NONE: 0 and 0, or 1 and a number that is at most so much
 unfoldable pub maybeFits : ℕ → List ℕ → Bool
-maybeFits most ws = cond (eqb (at ws 0) 0) true (eqb (at ws 0) 1 && leb (at ws 1) most)
+maybeFits most ws = cond (eqb (at ws 0) 0) (eqb (at ws 1) 0) (eqb (at ws 0) 1 && leb (at ws 1) most)
 
 -- ALTITUDE
 unfoldable pub altitudeWords : Altitude → List ℕ
@@ -82,7 +91,7 @@ unfoldable pub siteOf : List ℕ → Claimed
 siteOf ws = cond (eqb (at ws 0) 0) Nowhere (At (record { lat = ofBits binary64 (at ws 1); lon = ofBits binary64 (at ws 2); «alt_m» = altitudeOf (drop 3 ws) }))
 
 unfoldable pub siteFits : List ℕ → Bool
-siteFits ws = cond (eqb (at ws 0) 0) true (eqb (at ws 0) 1 && maybeFits most32 (drop 3 ws))
+siteFits ws = cond (eqb (at ws 0) 0) (zeros 4 (drop 1 ws)) (eqb (at ws 0) 1 && (wide2 (drop 1 ws) && maybeFits most32 (drop 3 ws)))
 
 -- EPOCH ID
 unfoldable pub idWords : EpochId → List ℕ
@@ -122,7 +131,7 @@ unfoldable pub runFits : List ℕ → Bool
 runFits ws = eqb (at ws 0) 1 && ((leb (at ws 1) 2 && (leb (at ws 2) 255 && leb (at ws 3) 255)) && (maybeFits most32 (drop 4 ws) && leb (at ws 6) 1))
 
 unfoldable pub verdictFits : List ℕ → Bool
-verdictFits ws = cond (eqb (at ws 0) 0) true (runFits ws)
+verdictFits ws = cond (eqb (at ws 0) 0) (zeros 6 (drop 1 ws)) (runFits ws)
 
 -- A ROW
 unfoldable pub wordsOfRow : ℕ
@@ -134,11 +143,12 @@ heardWords h = siteWords (h .site) ++ (h .generation ∷ (idWords (h .even) ++ i
 unfoldable pub closedOf : Row → List ℕ
 closedOf r = keyWords (r .key) ++ (heardWords (r .part .heard) ++ (verdictWords (r .part .verdict) ++ (r .prev ∷ r .next ∷ [])))
 
--- every word within its range
+-- every word within its range, and those of what is absent zeros
 unfoldable pub rowFits : List ℕ → Bool
 rowFits ws =
-    (leb (at ws 9) most32 && (leb (at ws 21) most32 && leb (at ws 22) most32))
-    && (siteFits (drop 4 ws) && (maybeFits most64 (drop 10 ws) && (maybeFits most64 (drop 12 ws) && verdictFits (drop 14 ws))))
+    (wide2 ws && wide2 (drop 2 ws))
+    && ((leb (at ws 9) most32 && (leb (at ws 21) most32 && leb (at ws 22) most32))
+    && (siteFits (drop 4 ws) && (maybeFits most64 (drop 10 ws) && (maybeFits most64 (drop 12 ws) && verdictFits (drop 14 ws)))))
 
 abbrev pub heardOf : List ℕ → Heard
 heardOf ws = record { site = siteOf (drop 4 ws); generation = low32 (at ws 9); even = idOf (drop 10 ws); odd = idOf (drop 12 ws) }

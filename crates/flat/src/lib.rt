@@ -1,5 +1,5 @@
 // Rows lent as plain numbers: 23 words of 64 bits each, so that they cross to C and Rust. A row is opened from its words and closed into them;
-// nothing here asks for anything: words out of range open as a row that question 2 refuses.
+// nothing here asks for anything: words that no row was closed as open as a row that question 2 refuses.
 ghost use mathlib.Core.Path.{_≡_};
 ghost use mathlib.Core.Bool.{cond, _&&_};
 ghost use mathlib.Core.List.{[], _∷_};
@@ -12,7 +12,7 @@ ghost use mir.Syntax.{w32};
 ghost use mir.Val.{ofZ, toZ, SFits};
 ghost use Rattle.rows.specs.Links.{blank};
 ghost use Rattle.flat.specs.Words as row;
-ghost use Rattle.flat.specs.Words.{low32, wordOf, bytesOf, eight, keyWords, keyOf, maybeFits, altitudeWords, altitudeOf, siteWords, siteOf, siteFits, idWords, idOf, lastWord, lastOf, byWords, byOf, verdictWords, runOf, verdictOf, runFits, verdictFits, wordsOfRow, closedOf, rowFits, rowOf, openedOf};
+ghost use Rattle.flat.specs.Words.{low32, wordOf, bytesOf, eight, keyWords, keyOf, wide2, zeros, maybeFits, altitudeWords, altitudeOf, siteWords, siteOf, siteFits, idWords, idOf, lastWord, lastOf, byWords, byOf, verdictWords, runOf, verdictOf, runFits, verdictFits, wordsOfRow, closedOf, rowFits, rowOf, openedOf};
 ghost use Rattle.flat.specs.Ranges.{Bytes, KeyIn, AltitudeIn, SiteIn, IdIn, ByIn, RunIn, VerdictIn, HeardIn, RowIn};
 ghost use Rattle.flat.specs.Table.{rowsOf};
 use receiver::Heard;
@@ -61,7 +61,7 @@ pub fn low32(w: u64) -> u32
 }
 
 // Numbers as words, with the range that their type has.
-fn wide8(x: u8) -> u64
+pub fn wide8(x: u8) -> u64
     ensures { λ r. ⌜ (r ≡ x) × (x ≤ 255) ⌝ }
 {
     x as u64
@@ -79,7 +79,7 @@ fn whole(x: u64) -> u64
     x
 }
 
-fn flag(b: bool) -> u64
+pub fn flag(b: bool) -> u64
     ensures { λ r. ⌜ r ≡ cond b 1 0 ⌝ }
 {
     if b { 1 } else { 0 }
@@ -92,7 +92,7 @@ fn bits(x: f64) -> u64
 }
 
 // The 32 bits of a signed number.
-fn unsigned(m: i32) -> u64
+pub fn unsigned(m: i32) -> u64
     ensures { λ r. ⌜ (r ≡ ofZ w32 m) × SFits w32 m ⌝ }
 {
     if m < 0 {
@@ -136,6 +136,17 @@ fn put4(words: &mut [u64], at: usize, a: u64, b: u64, c: u64, d: u64)
 {
     put2(words, at, a, b);
     put2(words, at + 2, c, d);
+}
+
+// Two words, which their type keeps in range; so that a row's words are told to be whatever its row is closed as.
+fn wide2(words: &[u64], at: usize) -> bool
+    requires { ⌜ at + 2 ≤ length (now words) ⌝ }
+    ensures { λ r. ⌜ r ≡ wide2 (drop at (now (words .entry))) ⌝ }
+{
+    let most = most64();
+    let a = words[at] <= most;
+    let b = words[at + 1] <= most;
+    rows::both(a, b)
 }
 
 // ---- key
@@ -213,6 +224,30 @@ pub fn key_at(words: &[u64]) -> [u8; 32]
     key
 }
 
+// ---- none
+
+// Are the four words from here on zeros?
+fn zeros4(words: &[u64], at: usize) -> bool
+    requires { ⌜ at + 4 ≤ length (now words) ⌝ }
+    ensures { λ r. ⌜ r ≡ zeros 4 (drop at (now (words .entry))) ⌝ }
+{
+    let a = words[at] == 0;
+    let b = words[at + 1] == 0;
+    let c = words[at + 2] == 0;
+    let d = words[at + 3] == 0;
+    rows::both(rows::both(rows::both(a, b), c), d)
+}
+
+fn zeros6(words: &[u64], at: usize) -> bool
+    requires { ⌜ at + 6 ≤ length (now words) ⌝ }
+    ensures { λ r. ⌜ r ≡ zeros 6 (drop at (now (words .entry))) ⌝ }
+{
+    let a = zeros4(words, at);
+    let b = words[at + 4] == 0;
+    let c = words[at + 5] == 0;
+    rows::both(rows::both(a, b), c)
+}
+
 // ---- a number or none
 
 fn maybe_fits(words: &[u64], at: usize, most: u64) -> bool
@@ -221,7 +256,7 @@ fn maybe_fits(words: &[u64], at: usize, most: u64) -> bool
 {
     let tag = words[at];
     if tag == 0 {
-        return true;
+        return words[at + 1] == 0;
     }
     if tag == 1 {
         return words[at + 1] <= most;
@@ -278,10 +313,12 @@ fn site_fits(words: &[u64], at: usize) -> bool
 {
     let tag = words[at];
     if tag == 0 {
-        return true;
+        return zeros4(words, at + 1);
     }
     if tag == 1 {
-        return maybe_fits(words, at + 3, most32());
+        let degrees = wide2(words, at + 1);
+        let altitude = maybe_fits(words, at + 3, most32());
+        return rows::both(degrees, altitude);
     }
     false
 }
@@ -327,7 +364,7 @@ fn id_at(words: &[u64], at: usize) -> EpochId
 
 // ---- verdict
 
-fn last_word(l: Last) -> u64
+pub fn last_word(l: Last) -> u64
     ensures { λ r. ⌜ r ≡ lastWord l ⌝ }
 {
     match l {
@@ -421,7 +458,7 @@ fn verdict_fits(words: &[u64], at: usize) -> bool
     ensures { λ r. ⌜ r ≡ verdictFits (drop at (now (words .entry))) ⌝ }
 {
     if words[at] == 0 {
-        return true;
+        return zeros6(words, at + 1);
     }
     run_fits(words, at)
 }
@@ -501,15 +538,14 @@ pub fn row_fits(words: &[u64]) -> bool
     requires { ⌜ 23 ≤ length (now words) ⌝ }
     ensures { λ r. ⌜ r ≡ rowFits (now (words .entry)) ⌝ }
 {
+    let key = rows::both(wide2(words, 0), wide2(words, 2));
     let links = links_fit(words);
     let site = site_fits(words, 4);
     let even = maybe_fits(words, 10, most64());
     let odd = maybe_fits(words, 12, most64());
     let verdict = verdict_fits(words, 14);
-    rows::both(
-        links,
-        rows::both(site, rows::both(even, rows::both(odd, verdict))),
-    )
+    let parts = rows::both(site, rows::both(even, rows::both(odd, verdict)));
+    rows::both(key, rows::both(links, parts))
 }
 
 fn heard_at(words: &[u64]) -> Heard

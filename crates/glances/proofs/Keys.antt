@@ -1,6 +1,6 @@
 -- Two keys are the same if their four words are: eight bytes make one word and come back from it.
 use mathlib.Core.Path.{_≡_, refl, sym, ap, ap₂, _∙_}
-use Prim.Native.Nat.{ℕ, zero, suc, _+_, _*_, _/_, _%_, _≤_, _<_}
+use Prim.Native.Nat.{ℕ, _+_, _≤_}
 use native.Mathlib.Omega.{arith}
 use mathlib.Core.Bool.{Bool, true, false, _&&_}
 use mathlib.Core.List.{List, [], _∷_, _++_, append-nil}
@@ -12,28 +12,14 @@ use Rattle.table.proofs.Tests.{byBool}
 use Rattle.table.proofs.Keys.{same-refl, same-eq}
 use Rattle.flat.specs.Words.{most64, wordOf, bytesOf, eight, keyWords, keyOf}
 use Rattle.flat.specs.Ranges.{Bytes}
-use Rattle.flat.proofs.Keys.{bytes-long, key-in, key-back}
-
--- 256 to the n-th
-abbrev top : ℕ → ℕ
-top zero = 1
-top (suc n) = 256 * top n
-
-word-back : (n w : ℕ) → w < top n → wordOf (bytesOf n w) ≡ w
-unfolding wordOf bytesOf
-word-back zero w h = omega arith
-word-back (suc n) w h = omega (arith, word-back n (w / 256) (omega arith))
-
-below : (w : ℕ) → w ≤ most64 → w < top 8
-unfolding most64
-below w h = omega arith
+use Rattle.flat.proofs.Keys.{word-back, bytes-long, key-in, key-back}
 
 same-bytes : (x y : ℕ) → x ≤ most64 → y ≤ most64 → same (bytesOf 8 x) (bytesOf 8 y) ≡ eqb x y
 same-bytes x y hx hy =
     byBool (eqb x y) (λ e. ap (λ (n : ℕ). same (bytesOf 8 x) (bytesOf 8 n)) (sym (eqb-true x y e)) ∙ same-refl (bytesOf 8 x) ∙ sym e) (λ e. byBool (same (bytesOf 8 x) (bytesOf 8 y)) (λ s. absurd (eqb-false x y e (equal s))) (λ s. s ∙ sym e))
   where
     equal : same (bytesOf 8 x) (bytesOf 8 y) ≡ true → x ≡ y
-    equal s = sym (word-back 8 x (below x hx)) ∙ ap wordOf (same-eq (bytesOf 8 x) (bytesOf 8 y) s) ∙ word-back 8 y (below y hy)
+    equal s = sym (word-back x hx) ∙ ap wordOf (same-eq (bytesOf 8 x) (bytesOf 8 y) s) ∙ word-back y hy
 
 and-assoc : (a b c : Bool) → (a && (b && c)) ≡ ((a && b) && c)
 and-assoc true b c = refl

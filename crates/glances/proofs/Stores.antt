@@ -7,27 +7,23 @@ use mathlib.Core.List.{List, [], _∷_, _++_, append-assoc}
 use borrow.Author.Tests.{le-leb, leb-true}
 use lib.Dec.{leb}
 use lib.ListN.{length, getD, take, drop, length-append}
-use lib.Seq.{sets, sets-eq, take-all}
+use lib.Seq.{sets, sets-eq}
 use Rattle.table.proofs.Tests.{and-1, and-2, and-both}
 use Rattle.receiver.specs.declared.Part.{Part}
 use Rattle.rows.specs.declared.Row.{Row}
 use Rattle.rows.specs.Links.{withLinks, withPart}
-use Rattle.flat.specs.Words.{most32, most64, keyOf, maybeFits, altitudeOf, siteOf, siteFits, idOf, byOf, runOf, verdictOf, runFits, verdictFits, heardWords, verdictWords, rowFits, rowOf, junk, openedOf}
+use Rattle.flat.specs.Words.{most32, most64, keyOf, wide2, maybeFits, altitudeOf, siteOf, siteFits, idOf, byOf, runOf, verdictOf, runFits, verdictFits, heardWords, verdictWords, rowFits, rowOf, junk, openedOf}
 use Rattle.flat.specs.Ranges.{HeardIn, VerdictIn}
 use Rattle.flat.proofs.Runs.{runs2}
-use Rattle.flat.proofs.Keys.{firsts, first-is}
 use Rattle.flat.proofs.Closing.{heard-words, verdict-words}
 use Rattle.flat.proofs.Returns.{low-is, opened-words}
+use Rattle.flat.proofs.Closed.{each, each-is}
 use Rattle.glances.proofs.Places.{opened-fit}
 
--- 23 words, one by one
-abbrev each : List ℕ → List ℕ
-each ws = firsts 23 ws 0
+-- the tests of a row: the key, generation and links, and the parts
+abbrev key : List ℕ → Bool
+key l = wide2 l && wide2 (drop 2 l)
 
-each-is : (ws : List ℕ) → length ws ≡ 23 → ws ≡ each ws
-each-is ws e = sym (take-all 23 ws (omega (arith, e))) ∙ first-is 23 ws 0 (omega (arith, e))
-
--- the tests of a row: generation and links, and the parts
 abbrev low : List ℕ → Bool
 low l = leb (getD l 9 0) most32 && (leb (getD l 21 0) most32 && leb (getD l 22 0) most32)
 
@@ -46,9 +42,11 @@ module _ (ws : List ℕ) (long : length ws ≡ 23) (fit : rowFits ws ≡ true) w
     linked-fit : rowFits linked ≡ true
     unfolding rowFits siteFits maybeFits verdictFits runFits
     linked-fit =
-        and-both (low linked) (rest linked)
-        (and-both (leb (getD ws 9 0) most32) (leb p most32 && leb n most32) (and-1 (leb (getD ws 9 0) most32) (leb (getD ws 21 0) most32 && leb (getD ws 22 0) most32) (and-1 (low (each ws)) (rest (each ws)) fit-each)) (and-both (leb p most32) (leb n most32) (le-leb p most32 hp) (le-leb n most32 hn)))
-        (and-2 (low (each ws)) (rest (each ws)) fit-each)
+        let all = and-2 (key (each ws)) (low (each ws) && rest (each ws)) fit-each in
+        and-both (key linked) (low linked && rest linked) (and-1 (key (each ws)) (low (each ws) && rest (each ws)) fit-each)
+        (and-both (low linked) (rest linked)
+        (and-both (leb (getD ws 9 0) most32) (leb p most32 && leb n most32) (and-1 (leb (getD ws 9 0) most32) (leb (getD ws 21 0) most32 && leb (getD ws 22 0) most32) (and-1 (low (each ws)) (rest (each ws)) all)) (and-both (leb p most32) (leb n most32) (le-leb p most32 hp) (le-leb n most32 hn)))
+        (and-2 (low (each ws)) (rest (each ws)) all))
 
     linked-row : rowOf linked ≡ withLinks (rowOf (each ws)) p n
     unfolding rowOf keyOf siteOf altitudeOf idOf verdictOf runOf byOf
@@ -80,7 +78,7 @@ module _ (ws : List ℕ) (long : length ws ≡ 23) (fit : rowFits ws ≡ true) w
 
     small : (leb (getD ws 21 0) most32 && leb (getD ws 22 0) most32) ≡ true
     unfolding rowFits
-    small = and-2 (leb (getD ws 9 0) most32) (leb (getD ws 21 0) most32 && leb (getD ws 22 0) most32) (and-1 (low ws) (rest ws) fit)
+    small = and-2 (leb (getD ws 9 0) most32) (leb (getD ws 21 0) most32 && leb (getD ws 22 0) most32) (and-1 (low ws) (rest ws) (and-2 (key ws) (low ws && rest ws) fit))
 
     small-prev : getD ws 21 0 ≤ most32
     small-prev = leb-true (getD ws 21 0) most32 (and-1 (leb (getD ws 21 0) most32) (leb (getD ws 22 0) most32) small)
@@ -88,11 +86,15 @@ module _ (ws : List ℕ) (long : length ws ≡ 23) (fit : rowFits ws ≡ true) w
     small-next : getD ws 22 0 ≤ most32
     small-next = leb-true (getD ws 22 0) most32 (and-2 (leb (getD ws 21 0) most32) (leb (getD ws 22 0) most32) small)
 
+    key-fits : key (each ws) ≡ true
+    unfolding rowFits
+    key-fits = and-1 (key (each ws)) (low (each ws) && rest (each ws)) fit-each
+
     parted-row : openedOf parted ≡ row
     unfolding keyOf
     parted-row =
         opened-words parted row (append-assoc (heardWords (part .heard)) (verdictWords (part .verdict)) (getD ws 21 0 ∷ getD ws 22 0 ∷ [])) (keyOf (each ws))
-        (record { heard = heard; verdict = verdict; prev = small-prev; next = small-next }) refl
+        (record { heard = heard; verdict = verdict; prev = small-prev; next = small-next }) key-fits refl
 
     row-is : row ≡ withPart (rowOf (each ws)) part
     unfolding rowOf

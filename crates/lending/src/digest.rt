@@ -2,7 +2,6 @@
 use crate::Size;
 use receiver::Heard;
 use receiver::Judged;
-use receiver::Last;
 use receiver::Verdict;
 use receiver::WrongBy;
 use rows::Row;
@@ -10,13 +9,10 @@ use sites::Altitude;
 use sites::Claimed;
 use view::EpochId;
 ghost use mathlib.Core.Path.{_≡_};
-ghost use mathlib.Core.Bool.{cond};
 ghost use mathlib.Core.List.{[], _∷_, map};
 ghost use lib.ListN.{length};
-ghost use mir.Syntax.{w32};
-ghost use mir.Val.{ofZ};
 ghost use Rattle.rows.specs.Read.{rowIs, endsIs, watchIs};
-ghost use Rattle.flat.specs.Words.{keyWords, altitudeWords, siteWords, idWords, heardWords, lastWord};
+ghost use Rattle.flat.specs.Words.{keyWords, altitudeWords, siteWords, idWords, heardWords};
 ghost use Rattle.flat.specs.Table.{rowsOf};
 ghost use Rattle.lending.specs.Digests as digests;
 ghost use Rattle.lending.specs.Digests.{mixed, mixedAll, linkWord, distanceOf, verdictSix, rowWords, rowsWords, endsWords, firstHash, digestOf};
@@ -50,24 +46,6 @@ fn mix_three(h: u64, a: u64, b: u64, c: u64) -> u64
     mix(mix_two(h, a, b), c)
 }
 
-fn wide(n: u32) -> u64
-    ensures { λ r. ⌜ r ≡ n ⌝ }
-{
-    n as u64
-}
-
-fn wide8(n: u8) -> u64
-    ensures { λ r. ⌜ r ≡ n ⌝ }
-{
-    n as u64
-}
-
-fn flag(b: bool) -> u64
-    ensures { λ r. ⌜ r ≡ cond b 1 0 ⌝ }
-{
-    if b { 1 } else { 0 }
-}
-
 // None is 2^64 − 1.
 fn link_word(n: u32) -> u64
     ensures { λ r. ⌜ r ≡ linkWord n ⌝ }
@@ -76,17 +54,6 @@ fn link_word(n: u32) -> u64
         return u64::MAX;
     }
     n as u64
-}
-
-// The 32 bits of a signed number.
-fn unsigned(m: i32) -> u64
-    ensures { λ r. ⌜ r ≡ ofZ w32 m ⌝ }
-{
-    if m < 0 {
-        4294967295 - ((-1 - m) as u64)
-    } else {
-        m as u64
-    }
 }
 
 // ---- a row
@@ -105,7 +72,7 @@ fn mix_altitude(h: u64, a: Altitude) -> u64
     ensures { λ r. ⌜ r ≡ mixedAll h (altitudeWords a) ⌝ }
 {
     match a {
-        Altitude::Metres(m) => mix_two(h, 1, unsigned(m)),
+        Altitude::Metres(m) => mix_two(h, 1, flat::unsigned(m)),
         Altitude::Unknown => mix_two(h, 0, 0),
     }
 }
@@ -140,25 +107,15 @@ fn mix_heard(h: u64, heard: Heard) -> u64
     let even = heard.even;
     let odd = heard.odd;
     let a = mix_site(h, site);
-    let b = mix(a, wide(heard.generation));
+    let b = mix(a, flat::wide32(heard.generation));
     mix_id(mix_id(b, even), odd)
-}
-
-fn last_word(l: Last) -> u64
-    ensures { λ r. ⌜ r ≡ lastWord l ⌝ }
-{
-    match l {
-        Last::Unjudged => 0,
-        Last::Fits => 1,
-        Last::Wrong => 2,
-    }
 }
 
 fn distance(by: WrongBy) -> u64
     ensures { λ r. ⌜ r ≡ distanceOf by ⌝ }
 {
     match by {
-        WrongBy::Km(d) => wide(d),
+        WrongBy::Km(d) => flat::wide32(d),
         WrongBy::Nothing => 0,
     }
 }
@@ -168,8 +125,13 @@ fn mix_run(h: u64, v: Verdict) -> u64
 {
     let last = v.last;
     let by = v.wrong_by;
-    let a = mix_three(h, 1, last_word(last), wide8(v.wrong_run));
-    mix_three(a, wide8(v.other_run), distance(by), flag(v.moved))
+    let a = mix_three(h, 1, flat::last_word(last), flat::wide8(v.wrong_run));
+    mix_three(
+        a,
+        flat::wide8(v.other_run),
+        distance(by),
+        flat::flag(v.moved),
+    )
 }
 
 fn mix_verdict(h: u64, j: Judged) -> u64
@@ -215,7 +177,7 @@ fn mix_cells(h: u64, cells: &[u32]) -> u64
     let mut g = h;
     let mut i = 0;
     while i < cells.len() {
-        g = mix(g, wide(cells[i]));
+        g = mix(g, flat::wide32(cells[i]));
         i += 1;
     }
     g
@@ -241,7 +203,7 @@ fn of_all(n: u32, rows: &[u64], cells: &[u32], ends: &[u32; 3]) -> u64
     requires { ⌜ n ≡ length (rowsOf (now rows)) ⌝ }
     ensures { λ r. ⌜ r ≡ digestOf (watchIs (rowsOf (now (rows .entry))) (now (cells .entry)) (now (ends .entry))) ⌝ }
 {
-    let a = mix(first_hash(), wide(n));
+    let a = mix(first_hash(), flat::wide32(n));
     let b = mix_ends(a, ends);
     let c = mix_rows(b, rows, n);
     mix_cells(c, cells)

@@ -1,5 +1,5 @@
 // The siting watch over rows lent as plain numbers, as C and Rust can lend them: the seven calls of crate `watch`, with the steps of crate `chains`.
-// Nothing is asked of what is lent: words that are no watch in order are refused, and a refusal changes no word.
+// Nothing is asked of what is lent: words that are no watch in order are refused, and a refusal changes no word. Accepted, the words are the call's rows, closed.
 ghost use mathlib.Core.Path.{_≡_};
 ghost use mathlib.Core.Bool.{true, false};
 ghost use lib.ListN.{getD};
@@ -8,8 +8,8 @@ ghost use Rattle.receiver.specs.Calls as calls;
 ghost use Rattle.rows.specs.Read.{watchIs};
 ghost use Rattle.rows.specs.Links.{blank};
 ghost use Rattle.rows.specs.Search.{isNo, isUnfit, atOf};
-ghost use Rattle.flat.specs.Table.{rowsOf};
-ghost use Rattle.moves.specs.Answers.{outcome};
+ghost use Rattle.flat.specs.Table.{rowsOf, Left};
+ghost use Rattle.moves.specs.Answers.{answerIs, outcome};
 ghost use Rattle.moves.specs.Moves.{ClaimedRow, HeardRow, judgedAs, judgedRows, checkedAs, removeMove, removedRows};
 ghost use Rattle.lent.specs.Refusal.{Untouched};
 use moves::Answer;
@@ -39,7 +39,7 @@ fn check_row(rows: &[u64], l: Look) -> Answer
 
 // What is held of the key's site. This marks nothing.
 pub fn check(rows: &mut [u64], cells: &mut [u32], ends: &mut [u32; 3], key: Key) -> Answer
-    ensures { λ r. ⌜ (outcome r (rowsOf (now (rows .exit))) (now (cells .exit)) (now (ends .exit)) ≡ calls.callOn (watchIs (rowsOf (now (rows .entry))) (now (cells .entry)) (now (ends .entry))) (key .bytes) calls.check) × Untouched r (now (rows .entry)) (now (rows .exit)) ⌝ }
+    ensures { λ r. ⌜ (outcome r (rowsOf (now (rows .exit))) (now (cells .exit)) (now (ends .exit)) ≡ calls.callOn (watchIs (rowsOf (now (rows .entry))) (now (cells .entry)) (now (ends .entry))) (key .bytes) calls.check) × Left (answerIs r) (now (rows .entry)) (now (rows .exit)) ⌝ }
 {
     let e = moves::ends_of(ends);
     let l = chains::look_up(rows, cells.len(), e, key);
@@ -64,7 +64,7 @@ fn remove(rows: &mut [u64], e: Ends, l: Look) -> Move
 
 // The key's row is freed.
 pub fn take_out(rows: &mut [u64], cells: &mut [u32], ends: &mut [u32; 3], key: Key) -> Answer
-    ensures { λ r. ⌜ (outcome r (rowsOf (now (rows .exit))) (now (cells .exit)) (now (ends .exit)) ≡ calls.callOn (watchIs (rowsOf (now (rows .entry))) (now (cells .entry)) (now (ends .entry))) (key .bytes) calls.takeOut) × Untouched r (now (rows .entry)) (now (rows .exit)) ⌝ }
+    ensures { λ r. ⌜ (outcome r (rowsOf (now (rows .exit))) (now (cells .exit)) (now (ends .exit)) ≡ calls.callOn (watchIs (rowsOf (now (rows .entry))) (now (cells .entry)) (now (ends .entry))) (key .bytes) calls.takeOut) × Left (answerIs r) (now (rows .entry)) (now (rows .exit)) ⌝ }
 {
     let e = moves::ends_of(ends);
     let l = chains::look_up(rows, cells.len(), e, key);
@@ -76,7 +76,7 @@ pub fn take_out(rows: &mut [u64], cells: &mut [u32], ends: &mut [u32; 3], key: K
 
 // The least recently used row is freed.
 pub fn drop_oldest(rows: &mut [u64], cells: &mut [u32], ends: &mut [u32; 3]) -> Answer
-    ensures { λ r. ⌜ (outcome r (rowsOf (now (rows .exit))) (now (cells .exit)) (now (ends .exit)) ≡ calls.dropOldest (watchIs (rowsOf (now (rows .entry))) (now (cells .entry)) (now (ends .entry)))) × Untouched r (now (rows .entry)) (now (rows .exit)) ⌝ }
+    ensures { λ r. ⌜ (outcome r (rowsOf (now (rows .exit))) (now (cells .exit)) (now (ends .exit)) ≡ calls.dropOldest (watchIs (rowsOf (now (rows .entry))) (now (cells .entry)) (now (ends .entry)))) × Left (answerIs r) (now (rows .entry)) (now (rows .exit)) ⌝ }
 {
     let e = moves::ends_of(ends);
     let k = moves::zero_key();
@@ -121,7 +121,7 @@ pub fn judging(
     now_ms: u64,
     aircraft: u64,
 ) -> Answer
-    ensures { λ r. ⌜ (outcome r (rowsOf (now (rows .exit))) (now (cells .exit)) (now (ends .exit)) ≡ calls.callOn (watchIs (rowsOf (now (rows .entry))) (now (cells .entry)) (now (ends .entry))) (key .bytes) (calls.judging «now_ms» aircraft)) × Untouched r (now (rows .entry)) (now (rows .exit)) ⌝ }
+    ensures { λ r. ⌜ (outcome r (rowsOf (now (rows .exit))) (now (cells .exit)) (now (ends .exit)) ≡ calls.callOn (watchIs (rowsOf (now (rows .entry))) (now (cells .entry)) (now (ends .entry))) (key .bytes) (calls.judging «now_ms» aircraft)) × Left (answerIs r) (now (rows .entry)) (now (rows .exit)) ⌝ }
 {
     let e = moves::ends_of(ends);
     let l = chains::look_up(rows, cells.len(), e, key);
@@ -161,7 +161,7 @@ pub fn position(
     key: Key,
     p: Position,
 ) -> Answer
-    ensures { λ r. ⌜ (outcome r (rowsOf (now (rows .exit))) (now (cells .exit)) (now (ends .exit)) ≡ calls.callOn (watchIs (rowsOf (now (rows .entry))) (now (cells .entry)) (now (ends .entry))) (key .bytes) (calls.position p)) × Untouched r (now (rows .entry)) (now (rows .exit)) ⌝ }
+    ensures { λ r. ⌜ (outcome r (rowsOf (now (rows .exit))) (now (cells .exit)) (now (ends .exit)) ≡ calls.callOn (watchIs (rowsOf (now (rows .entry))) (now (cells .entry)) (now (ends .entry))) (key .bytes) (calls.position p)) × Left (answerIs r) (now (rows .entry)) (now (rows .exit)) ⌝ }
 {
     let e = moves::ends_of(ends);
     let l = chains::look_up(rows, cells.len(), e, key);
@@ -201,7 +201,7 @@ pub fn claim(
     key: Key,
     site: Claimed,
 ) -> Answer
-    ensures { λ r. ⌜ (outcome r (rowsOf (now (rows .exit))) (now (cells .exit)) (now (ends .exit)) ≡ calls.callOn (watchIs (rowsOf (now (rows .entry))) (now (cells .entry)) (now (ends .entry))) (key .bytes) (calls.claim site)) × Untouched r (now (rows .entry)) (now (rows .exit)) ⌝ }
+    ensures { λ r. ⌜ (outcome r (rowsOf (now (rows .exit))) (now (cells .exit)) (now (ends .exit)) ≡ calls.callOn (watchIs (rowsOf (now (rows .entry))) (now (cells .entry)) (now (ends .entry))) (key .bytes) (calls.claim site)) × Left (answerIs r) (now (rows .entry)) (now (rows .exit)) ⌝ }
 {
     let e = moves::ends_of(ends);
     let l = chains::look_up(rows, cells.len(), e, key);
@@ -215,7 +215,7 @@ pub fn claim(
 
 // Every row free and as fresh, whatever was there.
 pub fn fresh(rows: &mut [u64], cells: &mut [u32], ends: &mut [u32; 3]) -> Answer
-    ensures { λ r. ⌜ (outcome r (rowsOf (now (rows .exit))) (now (cells .exit)) (now (ends .exit)) ≡ calls.freshCall (watchIs (rowsOf (now (rows .entry))) (now (cells .entry)) (now (ends .entry)))) × Untouched r (now (rows .entry)) (now (rows .exit)) ⌝ }
+    ensures { λ r. ⌜ (outcome r (rowsOf (now (rows .exit))) (now (cells .exit)) (now (ends .exit)) ≡ calls.freshCall (watchIs (rowsOf (now (rows .entry))) (now (cells .entry)) (now (ends .entry)))) × Left (answerIs r) (now (rows .entry)) (now (rows .exit)) ⌝ }
 {
     let n = flat::count(rows);
     let fit = rows::sizes_fit(n, cells.len());

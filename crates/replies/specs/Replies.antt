@@ -2,7 +2,7 @@
 use mathlib.Core.Path.{_≡_}
 use Prim.Native.Nat.{ℕ}
 use lib.IntN.{ℤ, pos}
-use mathlib.Core.Bool.{Bool, true, false, cond}
+use mathlib.Core.Bool.{cond}
 use mathlib.Core.Option.{Option, none, some}
 use mathlib.Core.List.{List, [], _∷_}
 use lib.Dec.{eqb}
@@ -26,7 +26,7 @@ use Rattle.receiver.specs.declared.CheckState.the-variants as States
 use Rattle.receiver.specs.Calls.{Out, generationIs, judgmentIs, says, freed, done}
 use Rattle.rows.specs.Read.{watchIs}
 use Rattle.flat.specs.Words.{keyWords}
-use Rattle.flat.specs.Table.{rowsOf}
+use Rattle.flat.specs.Table.{rowsOf, Left}
 
 -- ARGUMENTS: a tag of 0 is none
 abbrev pub altitudeBy : ℕ → ℤ → Altitude
@@ -77,10 +77,6 @@ abbrev pub answerWords : M.Answer Out → List ℕ
 answerWords (refused n) = plain 0 n 0 0
 answerWords (said p out) = saidWords p out
 
--- WHAT A CALL COMES TO: the answer's numbers and the watch that is left are the call's; refused, no word of the rows has changed
-abbrev pub isNo : M.Answer Out → Bool
-isNo (refused n) = true
-isNo (said p out) = false
-
+-- WHAT A CALL COMES TO: the answer's numbers and the watch that is left are the call's, and the words of the rows are what it leaves
 unfoldable pub Told : List ℕ → List ℕ → List ℕ → List ℕ → List ℕ → Step (Watch Part) Out → Type 0
-Told answer before after ys ws s = (answer ≡ answerWords (s .answer)) × (watchIs (rowsOf after) ys ws ≡ s .next) × (isNo (s .answer) ≡ true → after ≡ before)
+Told answer before after ys ws s = (answer ≡ answerWords (s .answer)) × (watchIs (rowsOf after) ys ws ≡ s .next) × Left (s .answer) before after

@@ -34,8 +34,8 @@ uint16_t siting_place(double site_lat, double site_lon, double lat, double lon);
 #define SITING_ROW_CELLS 3344
 
 /* A row's 23 numbers by name, in their order: `rows` may be read as an array of these. A number whose name begins with has_ is 0 or 1 and says whether
-   the numbers behind it are held (has_site: lat_bits to alt_m; has_verdict: last to moved); what is not held is written as 0 and not read. Any other
-   number there, or one that is too wide, is refused with 2. */
+   the numbers behind it are held (has_site: lat_bits to alt_m; has_verdict: last to moved); what is not held is 0. Any other number
+   there, or one that is too wide, is refused with 2, in a free row too; an accepted call leaves none. */
 struct siting_row {
   uint64_t key[4];      /* little-endian words of eight bytes */
   uint64_t has_site;

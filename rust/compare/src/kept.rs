@@ -26,6 +26,11 @@ impl Kept {
         &self.now
     }
 
+    /// The numbers that are lent.
+    pub fn rows(&self) -> &[u64] {
+        &self.now.rows[..self.lent.0]
+    }
+
     /// Lends only so many numbers and cells of it, at most all.
     pub fn cut(&mut self, rows: usize, cells: usize) {
         self.lent = (rows, cells);

@@ -92,9 +92,21 @@ impl Lent {
         }
     }
 
-    /// Makes a call; an error where it was refused and a byte has changed.
+    /// The first lent row whose words are not what it is closed as.
+    fn junk(&self) -> Option<usize> {
+        let mut rows = siting::Row::all(self.0.rows()).iter();
+        rows.position(|row| closed(&opened(row)) != *row)
+    }
+
+    /// Makes a call; an error where it was refused and a byte has changed, or accepted over or
+    /// with words that no row was closed as.
     pub fn called(&mut self, call: &Call) -> Result<Answer, String> {
-        match self.ask(call) {
+        let before = self.junk().filter(|_| *call != Call::Fresh);
+        let asked = self.ask(call);
+        if let (Ok(_), Some(at)) = (&asked, before.or_else(|| self.junk())) {
+            return Err(format!("{}: accepted with junk in row {at}", call.line()));
+        }
+        match asked {
             Ok(answer) if *call == Call::Fresh => {
                 self.0.follow_all();
                 Ok(answer)

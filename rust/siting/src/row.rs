@@ -10,7 +10,8 @@ pub const NONE: u32 = u32::MAX;
 
 /// A row as the calls write it: 23 numbers of 64 bits in this order, the `struct siting_row` of
 /// `siting.h`. A number that begins with `has_` is 0 or 1 and says whether the number behind it is
-/// held; what is not held is written as 0. Question 2 refuses a row with any other number there.
+/// held; what is not held is 0. Question 2 refuses a row with any other number there, a free one
+/// too, and an accepted call leaves none.
 ///
 /// ```
 /// use siting::{Row, Site, Watch};

@@ -346,14 +346,19 @@ mod tests {
         assert_eq!(watch, before);
     }
 
-    /// A tag that is neither 0 nor 1 is refused with 2; a length that is no whole row with 1.
+    /// A tag that is neither 0 nor 1, and a number behind a tag of 0, are refused with 2, of a free
+    /// row too; a length that is no whole row with 1.
     #[test]
     fn junk_is_refused() {
         let mut watch = watch(2);
-        watch.rows[4] = 2;
-        let before = watch.clone();
-        assert_eq!(watch.check(&[0; 32]), Err(Refusal::NotInOrder));
-        assert_eq!(watch, before);
+        // A site's tag; and latitude, altitude, ids, the last judging and the distance of none.
+        for (at, junk) in [(4, 2), (5, 1), (8, 7), (11, 1), (13, 1), (15, 1), (19, 5)] {
+            let mut spoiled = watch.clone();
+            spoiled.rows[at] = junk;
+            let before = spoiled.clone();
+            assert_eq!(spoiled.check(&[0; 32]), Err(Refusal::NotInOrder));
+            assert_eq!(spoiled, before);
+        }
         watch.rows.pop();
         assert_eq!(watch.fresh(), Err(Refusal::Sizes));
     }

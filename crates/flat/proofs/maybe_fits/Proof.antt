@@ -1,6 +1,5 @@
 -- `flat::maybe_fits` meets its contract: each way out is a law that is cited below, at what the code found.
-use Rattle.flat.proofs.Opening.{absent, maybe-some, maybe-other}
-use Rattle.flat.specs.Words.{maybeFits}
+use Rattle.flat.proofs.Opening.{maybe-none, maybe-some, maybe-other}
 use borrow.Author.Needs.{needs}
 use Rattle.flat.proofs.maybe_fits.Statement.{statement}
 use Rattle.flat.proofs.maybe_fits.Tie as tie
@@ -11,10 +10,6 @@ mul-tag c = search needs
 shared-slice-read-tag : tie.Need-shared-slice-read-tag
 shared-slice-read-tag c = search needs
 
-returns : tie.Need-returns
-unfolding maybeFits
-returns c = search (absent, needs)
-
 add-result : tie.Need-add-result
 add-result c = search needs
 
@@ -23,6 +18,18 @@ mul-result c = search needs
 
 shared-slice-read-result : tie.Need-shared-slice-read-result
 shared-slice-read-result c = search needs
+
+returns : tie.Need-returns
+returns c = search (maybe-none, needs)
+
+add-result-2 : tie.Need-add-result-2
+add-result-2 c = search needs
+
+mul-result-2 : tie.Need-mul-result-2
+mul-result-2 c = search needs
+
+shared-slice-read-result-2 : tie.Need-shared-slice-read-result-2
+shared-slice-read-result-2 c = search needs
 
 returns-2 : tie.Need-returns-2
 returns-2 c = search (maybe-some, needs)
@@ -36,9 +43,12 @@ maybe-fits-spec =
     (tie.spec
     mul-tag
     shared-slice-read-tag
-    returns
     add-result
     mul-result
     shared-slice-read-result
+    returns
+    add-result-2
+    mul-result-2
+    shared-slice-read-result-2
     returns-2
     returns-3)

@@ -4,6 +4,15 @@ use borrow.Author.Needs.{needs}
 use Rattle.flat.proofs.row_fits.Statement.{statement}
 use Rattle.flat.proofs.row_fits.Tie as tie
 
+wide2-requires : tie.Need-wide2-requires
+wide2-requires c κs = search needs
+
+wide2-requires-2 : tie.Need-wide2-requires-2
+wide2-requires-2 c κs = search needs
+
+both-requires : tie.Need-both-requires
+both-requires c κs = search needs
+
 links-fit-requires : tie.Need-links-fit-requires
 links-fit-requires c κs = search needs
 
@@ -25,9 +34,6 @@ maybe-fits-requires-2 c κs = search needs
 verdict-fits-requires : tie.Need-verdict-fits-requires
 verdict-fits-requires c κs = search needs
 
-both-requires : tie.Need-both-requires
-both-requires c κs = search needs
-
 both-requires-2 : tie.Need-both-requires-2
 both-requires-2 c κs = search needs
 
@@ -37,6 +43,12 @@ both-requires-3 c κs = search needs
 both-requires-4 : tie.Need-both-requires-4
 both-requires-4 c κs = search needs
 
+both-requires-5 : tie.Need-both-requires-5
+both-requires-5 c κs = search needs
+
+both-requires-6 : tie.Need-both-requires-6
+both-requires-6 c κs = search needs
+
 returns : tie.Need-returns
 returns c = search (row-fits-is, needs)
 
@@ -44,6 +56,9 @@ pub row-fits-spec : {M : Type 1} → statement M
 row-fits-spec =
     tie.close
     (tie.spec
+    wide2-requires
+    wide2-requires-2
+    both-requires
     links-fit-requires
     site-fits-requires
     most64-requires
@@ -51,8 +66,9 @@ row-fits-spec =
     most64-requires-2
     maybe-fits-requires-2
     verdict-fits-requires
-    both-requires
     both-requires-2
     both-requires-3
     both-requires-4
+    both-requires-5
+    both-requires-6
     returns)

@@ -1,6 +1,5 @@
 -- `flat::site_fits` meets its contract: each way out is a law that is cited below, at what the code found.
-use Rattle.flat.proofs.Opening.{absent, site-fits-some, site-fits-other}
-use Rattle.flat.specs.Words.{siteFits}
+use Rattle.flat.proofs.Opening.{site-fits-none, site-fits-some, site-fits-other}
 use borrow.Author.Needs.{needs}
 use Rattle.flat.proofs.site_fits.Statement.{statement}
 use Rattle.flat.proofs.site_fits.Tie as tie
@@ -11,9 +10,20 @@ mul-tag c = search needs
 shared-slice-read-tag : tie.Need-shared-slice-read-tag
 shared-slice-read-tag c = search needs
 
+add-zeros4 : tie.Need-add-zeros4
+add-zeros4 c = search needs
+
+zeros4-requires : tie.Need-zeros4-requires
+zeros4-requires c κs = search needs
+
 returns : tie.Need-returns
-unfolding siteFits
-returns c = search (absent, needs)
+returns c = search (site-fits-none, needs)
+
+add-wide2 : tie.Need-add-wide2
+add-wide2 c = search needs
+
+wide2-requires : tie.Need-wide2-requires
+wide2-requires c κs = search needs
 
 add-maybe-fits : tie.Need-add-maybe-fits
 add-maybe-fits c = search needs
@@ -23,6 +33,9 @@ most32-requires c κs = search needs
 
 maybe-fits-requires : tie.Need-maybe-fits-requires
 maybe-fits-requires c κs = search needs
+
+both-requires : tie.Need-both-requires
+both-requires c κs = search needs
 
 returns-2 : tie.Need-returns-2
 returns-2 c = search (site-fits-some, needs)
@@ -36,9 +49,14 @@ site-fits-spec =
     (tie.spec
     mul-tag
     shared-slice-read-tag
+    add-zeros4
+    zeros4-requires
     returns
+    add-wide2
+    wide2-requires
     add-maybe-fits
     most32-requires
     maybe-fits-requires
+    both-requires
     returns-2
     returns-3)

@@ -1,6 +1,5 @@
 -- `flat::verdict_fits` meets its contract: each way out is a law that is cited below, at what the code found.
-use Rattle.flat.proofs.Opening.{absent, verdict-fits-some}
-use Rattle.flat.specs.Words.{verdictFits}
+use Rattle.flat.proofs.Opening.{verdict-fits-none, verdict-fits-some}
 use borrow.Author.Needs.{needs}
 use Rattle.flat.proofs.verdict_fits.Statement.{statement}
 use Rattle.flat.proofs.verdict_fits.Tie as tie
@@ -11,9 +10,14 @@ mul-if1 c = search needs
 shared-slice-read-if1 : tie.Need-shared-slice-read-if1
 shared-slice-read-if1 c = search needs
 
+add-zeros6 : tie.Need-add-zeros6
+add-zeros6 c = search needs
+
+zeros6-requires : tie.Need-zeros6-requires
+zeros6-requires c κs = search needs
+
 returns : tie.Need-returns
-unfolding verdictFits
-returns c = search (absent, needs)
+returns c = search (verdict-fits-none, needs)
 
 run-fits-requires : tie.Need-run-fits-requires
 run-fits-requires c κs = search needs
@@ -23,4 +27,12 @@ returns-2 c = search (verdict-fits-some, needs)
 
 pub verdict-fits-spec : {M : Type 1} → statement M
 verdict-fits-spec =
-    tie.close (tie.spec mul-if1 shared-slice-read-if1 returns run-fits-requires returns-2)
+    tie.close
+    (tie.spec
+    mul-if1
+    shared-slice-read-if1
+    add-zeros6
+    zeros6-requires
+    returns
+    run-fits-requires
+    returns-2)

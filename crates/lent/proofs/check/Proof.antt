@@ -2,6 +2,7 @@
 use Rattle.lent.proofs.Laws.{same-words}
 use Rattle.moves.proofs.Entries.{check-so}
 use Rattle.flat.specs.Table.{rowsOf}
+use Rattle.lent.proofs.Exit.{told-call}
 use borrow.Author.Needs.{needs}
 use Rattle.lent.proofs.check.Statement.{statement}
 use Rattle.lent.proofs.check.Tie as tie
@@ -24,7 +25,9 @@ returns c =
     let check-row = c .check-row in
     let look-up = c .before .before .look-up in
     let ends-of = c .before .before .before .before .ends-of in
-    (check-so (rowsOf (args .rows .now)) (args .cells .now) (args .ends .now) (ends-of .result) (args .key) (look-up .result) (ends-of .ensures .0) (look-up .ensures) _ _ (ends-of .ensures .1) (check-row .ensures), same-words _ _)
+    told-call (check-row .result) _ _ _ (ends-of .last .0) _ _ _
+    (check-so (rowsOf (args .rows .now)) (args .cells .now) (args .ends .now) (ends-of .result) (args .key) (look-up .result) (ends-of .ensures .0) (look-up .ensures) _ _ (ends-of .ensures .1) (check-row .ensures))
+    (same-words _ _)
 
 pub check-spec : {M : Type 1} → statement M
 check-spec =

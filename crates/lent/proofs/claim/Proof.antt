@@ -4,6 +4,7 @@ use Rattle.moves.proofs.Entries.{claim-room, claim-so}
 use Rattle.moves.proofs.Looked.{fit-site}
 use Rattle.flat.specs.Table.{rowsOf}
 use mathlib.Core.Path.{refl}
+use Rattle.lent.proofs.Exit.{told-call}
 use borrow.Author.Needs.{needs}
 use Rattle.lent.proofs.claim.Statement.{statement}
 use Rattle.lent.proofs.claim.Tie as tie
@@ -50,7 +51,9 @@ returns c =
     let claim-row = c .before .before .before .before .before .before .before .before .before .claim-row in
     let look-up = c .before .before .before .before .before .before .before .before .before .before .before .look-up in
     let ends-of = c .before .before .before .before .before .before .before .before .before .before .before .before .before .ends-of in
-    (claim-so (rowsOf (args .rows .now)) (args .cells .now) (args .ends .now) (ends-of .result) (args .key) (look-up .result) (ends-of .ensures .0) (look-up .ensures) (args .site) (claim-row .result) _ _ (keep-move .last .0) _ (claim-row .ensures .0) (empty-move .ensures) (keep-move .ensures) (answer-of .ensures), words-of _ _ _ _ (answer-of .ensures) (claim-row .ensures .1))
+    told-call _ _ _ _ (keep-move .last .0) _ _ _
+    (claim-so (rowsOf (args .rows .now)) (args .cells .now) (args .ends .now) (ends-of .result) (args .key) (look-up .result) (ends-of .ensures .0) (look-up .ensures) (args .site) (claim-row .result) _ _ (keep-move .last .0) _ (claim-row .ensures .0) (empty-move .ensures) (keep-move .ensures) (answer-of .ensures))
+    (words-of _ _ _ _ (answer-of .ensures) (claim-row .ensures .1))
 
 pub claim-spec : {M : Type 1} → statement M
 claim-spec =

@@ -2,6 +2,7 @@
 use Rattle.lent.proofs.Laws.{words-of}
 use Rattle.moves.proofs.Entries.{drop-room, drop-so}
 use Rattle.flat.specs.Table.{rowsOf}
+use Rattle.lent.proofs.Exit.{told-drop}
 use borrow.Author.Needs.{needs}
 use Rattle.lent.proofs.drop_oldest.Statement.{statement}
 use Rattle.lent.proofs.drop_oldest.Tie as tie
@@ -54,7 +55,9 @@ returns c =
     let look-up = c .before .before .before .before .before .before .before .before .before .before .before .before .look-up in
     let zero-key = c .before .before .before .before .before .before .before .before .before .before .before .before .before .before .zero-key in
     let ends-of = c .before .before .before .before .before .before .before .before .before .before .before .before .before .before .before .ends-of in
-    (drop-so (rowsOf (args .rows .now)) (args .cells .now) (args .ends .now) (ends-of .result) (zero-key .result) (look-up .result) (ends-of .ensures .0) (look-up .ensures) (oldest-of .result) (remove .result) _ _ (keep-move .last .0) _ (oldest-of .ensures) (remove .ensures .0, remove .ensures .1) (empty-move .ensures) (keep-move .ensures) (answer-of .ensures), words-of _ _ _ _ (answer-of .ensures) (remove .ensures .2))
+    told-drop _ _ _ _ (keep-move .last .0) _
+    (drop-so (rowsOf (args .rows .now)) (args .cells .now) (args .ends .now) (ends-of .result) (zero-key .result) (look-up .result) (ends-of .ensures .0) (look-up .ensures) (oldest-of .result) (remove .result) _ _ (keep-move .last .0) _ (oldest-of .ensures) (remove .ensures .0, remove .ensures .1) (empty-move .ensures) (keep-move .ensures) (answer-of .ensures))
+    (words-of _ _ _ _ (answer-of .ensures) (remove .ensures .2))
 
 pub drop-oldest-spec : {M : Type 1} → statement M
 drop-oldest-spec =

@@ -4,6 +4,7 @@ use Rattle.lent.proofs.Making.{few-rows, fresh-not, fresh-made}
 use Rattle.flat.specs.Table.{rowsOf}
 use mathlib.Core.Path.{refl}
 use lib.ListN.{length}
+use Rattle.lent.proofs.Exit.{told-fresh}
 use borrow.Author.Needs.{needs}
 use Rattle.lent.proofs.fresh.Statement.{statement}
 use Rattle.lent.proofs.fresh.Tie as tie
@@ -31,7 +32,9 @@ returns c =
     let negated = c .before .before .negated in
     let sizes-fit = c .before .before .before .sizes-fit in
     let count = c .before .before .before .before .count in
-    (fresh-not (rowsOf (args .rows .now)) (count .result) (length (args .cells .now)) (sizes-fit .result) (negated .result) (count .ensures) (sizes-fit .ensures) (negated .ensures) (args .cells .now) (args .ends .now) refl (no-first .result) (if1 .taken) (no-first .ensures), same-words _ _)
+    told-fresh (no-first .result) _ _ _ (args .ends .now) _
+    (fresh-not (rowsOf (args .rows .now)) (count .result) (length (args .cells .now)) (sizes-fit .result) (negated .result) (count .ensures) (sizes-fit .ensures) (negated .ensures) (args .cells .now) (args .ends .now) refl (no-first .result) (if1 .taken) (no-first .ensures))
+    (same-words _ _)
 
 fresh-rows-requires : tie.Need-fresh-rows-requires
 fresh-rows-requires c κs =
@@ -72,7 +75,9 @@ returns-2 c =
     let negated = c .before .before .before .before .before .before .before .before .before .before .before .before .before .negated in
     let sizes-fit = c .before .before .before .before .before .before .before .before .before .before .before .before .before .before .sizes-fit in
     let count = c .before .before .before .before .before .before .before .before .before .before .before .before .before .before .before .count in
-    (fresh-made (rowsOf (args .rows .now)) (count .result) (length (args .cells .now)) (sizes-fit .result) (negated .result) (count .ensures) (sizes-fit .ensures) (negated .ensures) (args .cells .now) (args .ends .now) refl _ _ (keep .last .0) (fresh-ends .result) (done .result) (if1 .left) (fresh-rows .ensures) (fresh-cells .ensures) (fresh-ends .ensures) (keep .ensures) (done .ensures), done-words _ _ _ (done .ensures))
+    told-fresh (done .result) _ _ _ (keep .last .0) _
+    (fresh-made (rowsOf (args .rows .now)) (count .result) (length (args .cells .now)) (sizes-fit .result) (negated .result) (count .ensures) (sizes-fit .ensures) (negated .ensures) (args .cells .now) (args .ends .now) refl _ _ (keep .last .0) (fresh-ends .result) (done .result) (if1 .left) (fresh-rows .ensures) (fresh-cells .ensures) (fresh-ends .ensures) (keep .ensures) (done .ensures))
+    (done-words _ _ _ (done .ensures))
 
 pub fresh-spec : {M : Type 1} → statement M
 fresh-spec =

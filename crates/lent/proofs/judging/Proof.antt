@@ -2,6 +2,7 @@
 use Rattle.moves.proofs.Entries.{judging-so}
 use Rattle.moves.proofs.Looked.{look-room}
 use Rattle.flat.specs.Table.{rowsOf}
+use Rattle.lent.proofs.Exit.{told-call}
 use borrow.Author.Needs.{needs}
 use Rattle.lent.proofs.judging.Statement.{statement}
 use Rattle.lent.proofs.judging.Tie as tie
@@ -39,7 +40,9 @@ returns c =
     let heard-at = c .before .before .before .before .before .before .heard-at in
     let look-up = c .before .before .before .before .before .before .before .before .look-up in
     let ends-of = c .before .before .before .before .before .before .before .before .before .before .ends-of in
-    (judging-so (rowsOf (args .rows .now)) (args .cells .now) (args .ends .now) (ends-of .result) (args .key) (look-up .result) (ends-of .ensures .0) (look-up .ensures) (args .now-ms) (args .aircraft) (heard-at .result) (judge-at .result) _ _ _ (heard-at .ensures) (judge-at .ensures) (judge-row .ensures .0, judge-row .ensures .1) (ends-of .ensures .1), judge-row .ensures .2)
+    told-call _ _ _ _ (ends-of .last .0) _ _ _
+    (judging-so (rowsOf (args .rows .now)) (args .cells .now) (args .ends .now) (ends-of .result) (args .key) (look-up .result) (ends-of .ensures .0) (look-up .ensures) (args .now-ms) (args .aircraft) (heard-at .result) (judge-at .result) _ _ _ (heard-at .ensures) (judge-at .ensures) (judge-row .ensures .0, judge-row .ensures .1) (ends-of .ensures .1))
+    (judge-row .ensures .2)
 
 pub judging-spec : {M : Type 1} → statement M
 judging-spec =

@@ -4,6 +4,7 @@ use Rattle.moves.proofs.Entries.{position-room, position-so}
 use Rattle.moves.proofs.Looked.{held-site}
 use Rattle.flat.specs.Table.{rowsOf}
 use mathlib.Core.Path.{refl}
+use Rattle.lent.proofs.Exit.{told-call}
 use borrow.Author.Needs.{needs}
 use Rattle.lent.proofs.position.Statement.{statement}
 use Rattle.lent.proofs.position.Tie as tie
@@ -50,7 +51,9 @@ returns c =
     let hear-row = c .before .before .before .before .before .before .before .before .before .hear-row in
     let look-up = c .before .before .before .before .before .before .before .before .before .before .before .look-up in
     let ends-of = c .before .before .before .before .before .before .before .before .before .before .before .before .before .ends-of in
-    (position-so (rowsOf (args .rows .now)) (args .cells .now) (args .ends .now) (ends-of .result) (args .key) (look-up .result) (ends-of .ensures .0) (look-up .ensures) (args .p) (hear-row .result) _ _ (keep-count .last .0) _ (hear-row .ensures .0) (count-at .ensures) (keep-count .ensures) (answered .ensures), words-of _ _ _ _ (answered .ensures) (hear-row .ensures .1))
+    told-call _ _ _ _ (keep-count .last .0) _ _ _
+    (position-so (rowsOf (args .rows .now)) (args .cells .now) (args .ends .now) (ends-of .result) (args .key) (look-up .result) (ends-of .ensures .0) (look-up .ensures) (args .p) (hear-row .result) _ _ (keep-count .last .0) _ (hear-row .ensures .0) (count-at .ensures) (keep-count .ensures) (answered .ensures))
+    (words-of _ _ _ _ (answered .ensures) (hear-row .ensures .1))
 
 pub position-spec : {M : Type 1} → statement M
 position-spec =

@@ -2,6 +2,7 @@
 use Rattle.lent.proofs.Laws.{words-of}
 use Rattle.moves.proofs.Entries.{take-room, take-so}
 use Rattle.flat.specs.Table.{rowsOf}
+use Rattle.lent.proofs.Exit.{told-call}
 use borrow.Author.Needs.{needs}
 use Rattle.lent.proofs.take_out.Statement.{statement}
 use Rattle.lent.proofs.take_out.Tie as tie
@@ -44,7 +45,9 @@ returns c =
     let remove = c .before .before .before .before .before .before .before .before .before .remove in
     let look-up = c .before .before .before .before .before .before .before .before .before .before .before .look-up in
     let ends-of = c .before .before .before .before .before .before .before .before .before .before .before .before .before .ends-of in
-    (take-so (rowsOf (args .rows .now)) (args .cells .now) (args .ends .now) (ends-of .result) (args .key) (look-up .result) (ends-of .ensures .0) (look-up .ensures) (remove .result) _ _ (keep-move .last .0) _ (remove .ensures .0, remove .ensures .1) (empty-move .ensures) (keep-move .ensures) (answer-of .ensures), words-of _ _ _ _ (answer-of .ensures) (remove .ensures .2))
+    told-call _ _ _ _ (keep-move .last .0) _ _ _
+    (take-so (rowsOf (args .rows .now)) (args .cells .now) (args .ends .now) (ends-of .result) (args .key) (look-up .result) (ends-of .ensures .0) (look-up .ensures) (remove .result) _ _ (keep-move .last .0) _ (remove .ensures .0, remove .ensures .1) (empty-move .ensures) (keep-move .ensures) (answer-of .ensures))
+    (words-of _ _ _ _ (answer-of .ensures) (remove .ensures .2))
 
 pub take-out-spec : {M : Type 1} → statement M
 take-out-spec =

@@ -7,8 +7,8 @@ use Rattle.lending.proofs.digest.mix_heard.Tie as tie
 mix-site-requires : tie.Need-mix-site-requires
 mix-site-requires c κs = search needs
 
-wide-requires : tie.Need-wide-requires
-wide-requires c κs = search needs
+wide32-requires : tie.Need-wide32-requires
+wide32-requires c κs = search needs
 
 mix-requires : tie.Need-mix-requires
 mix-requires c κs = search needs
@@ -27,7 +27,7 @@ mix-heard-spec =
     tie.close
     (tie.spec
     mix-site-requires
-    wide-requires
+    wide32-requires
     mix-requires
     mix-id-requires
     mix-id-requires-2

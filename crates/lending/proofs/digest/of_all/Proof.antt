@@ -7,8 +7,8 @@ use Rattle.lending.proofs.digest.of_all.Tie as tie
 first-hash-requires : tie.Need-first-hash-requires
 first-hash-requires c κs = search needs
 
-wide-requires : tie.Need-wide-requires
-wide-requires c κs = search needs
+wide32-requires : tie.Need-wide32-requires
+wide32-requires c κs = search needs
 
 mix-requires : tie.Need-mix-requires
 mix-requires c κs = search needs
@@ -30,7 +30,7 @@ of-all-spec =
     tie.close
     (tie.spec
     first-hash-requires
-    wide-requires
+    wide32-requires
     mix-requires
     mix-ends-requires
     mix-rows-requires
