@@ -9,7 +9,7 @@ use mathlib.Core.List.{List, [], _∷_, _++_, map}
 use borrow.Author.Tests.{eqb-true, leb-true}
 use lib.Dec.{T, eqb, leb}
 use lib.ListN.{length, getD, take, drop, length-take, length-drop, take-append-drop}
-use lib.Seq.{take-all, getD-take, getD-drop}
+use lib.Seq.{take-all}
 use lib.Ieee.{Float, nan, inf, fin, isNan, binary64, ofBits, toBits}
 use lib.Ieee.Bits.{toBits-ofBits}
 use mir.Syntax.{w32}
@@ -24,10 +24,9 @@ use Rattle.sites.specs.declared.Claimed.the-variants.{At, Nowhere}
 use Rattle.receiver.specs.Heard as heard
 use Rattle.receiver.specs.Verdict as run
 use Rattle.receiver.specs.declared.Judged.the-variants.{With, Never}
-use Rattle.receiver.specs.declared.Part.{Part}
 use Rattle.rows.specs.declared.Row.{Row}
 use Rattle.rows.specs.Read.{form, fits, rowIs}
-use Rattle.flat.specs.Words.{most32, most64, low32, wordOf, bytesOf, keyWords, keyOf, wide2, zeros, maybeFits, altitudeWords, altitudeOf, siteWords, siteOf, siteFits, idWords, idOf, lastWord, lastOf, byWords, byOf, verdictWords, runOf, verdictOf, runFits, verdictFits, wordsOfRow, heardWords, closedOf, rowFits, heardOf, rowOf, junk, openedOf}
+use Rattle.flat.specs.Words.{most32, most64, bytesOf, keyWords, keyOf, wide2, zeros, maybeFits, altitudeWords, altitudeOf, siteWords, siteOf, siteFits, idWords, idOf, lastWord, lastOf, byWords, byOf, verdictWords, runOf, verdictOf, runFits, verdictFits, wordsOfRow, heardWords, closedOf, rowFits, rowOf, junk, openedOf}
 use Rattle.flat.specs.Table.{rowsFrom, rowsOf, wordsOf}
 use Rattle.flat.proofs.Keys.{firsts, first-is, word-back}
 use Rattle.flat.proofs.Opening.{opens, opens-junk}

@@ -3,7 +3,7 @@
 use mathlib.Core.Path.{_≡_, refl, sym, subst}
 use Prim.Native.Nat.{ℕ, _≤_}
 use native.Mathlib.Omega.{arith}
-use mathlib.Core.Bool.{true, false, _&&_}
+use mathlib.Core.Bool.{true}
 use mathlib.Core.List.{List, [], map}
 use lib.ListN.{length, length-map}
 use Rattle.table.specs.Machine as M
@@ -19,7 +19,6 @@ use Rattle.table.proofs.Safe.{passes-again, drop-passes}
 use Rattle.receiver.specs.declared.Part.{Part}
 use Rattle.receiver.specs.Calls.{Act, Out, kind, freed, siting, freshCall, dropOldest, callOn}
 use Rattle.receiver.proofs.Keeps.{lawful}
-use Rattle.rows.specs.declared.Row.{Row}
 use Rattle.rows.specs.Read.{form, rowIs, watchIs}
 use Rattle.flat.specs.Table.{rowsOf, wordsOf, Left}
 use Rattle.flat.proofs.Closed.{all-closed}

@@ -8,21 +8,12 @@ use Rattle.table.specs.Machine.{Outcome, refuse, accept}
 use Rattle.table.specs.Watch.{Body}
 use Rattle.cells.specs.Cells.{emptyWord, addedWord}
 use Rattle.receiver.specs.declared.Heard.{Heard}
-use Rattle.receiver.specs.declared.Part.{Part}
 use Rattle.receiver.specs.declared.Claiming.{Claiming}
 use Rattle.receiver.specs.declared.Claiming.the-variants as Claimings
 use Rattle.receiver.specs.declared.Counting.{Counting}
 use Rattle.receiver.specs.declared.Hearing.{Hearing}
 use Rattle.receiver.specs.declared.Hearing.the-variants as Hearings
-use Rattle.receiver.specs.declared.Claim.{Claim}
-use Rattle.receiver.specs.declared.Claim.the-variants as Claims
-use Rattle.receiver.specs.declared.Placed.{Placed}
-use Rattle.receiver.specs.declared.Placed.the-variants as Placings
-use Rattle.receiver.specs.declared.Checked.{Checked}
-use Rattle.receiver.specs.declared.Checked.the-variants as Checks
-use Rattle.receiver.specs.declared.JudgedRow.{JudgedRow}
 use Rattle.receiver.specs.Heard.{half, emptyCells, Moved, moved, stayed}
-use Rattle.receiver.specs.Calls.{Out, generationIs, judgmentIs, says, done}
 
 -- `set_site`, of a row whose cells are l
 abbrev pub claimingIs : Claiming → List ℕ → Outcome (Body Heard) Moved
@@ -53,25 +44,3 @@ HearingFits Hearings.Outside = Unit {0}
 HearingFits Hearings.Siteless = Unit {0}
 HearingFits Hearings.Late = Unit {0}
 HearingFits (Hearings.In c) = CountingFits c
-
--- a row's part and cells
-abbrev pub bodyOf : Part → List ℕ → Body Part
-bodyOf p l = record { part = p; cells = l }
-
--- the whole calls, of a row whose cells are l at the end
-abbrev pub claimIs : Claim → List ℕ → Outcome (Body Part) Out
-claimIs Claims.Refused l = refuse 4
-claimIs (Claims.Accepted p) l = accept (record { part = p; cells = l }) (generationIs (p .heard .generation))
-
-abbrev pub placedIs : Placed → List ℕ → Outcome (Body Part) Out
-placedIs Placings.Outside l = refuse 4
-placedIs Placings.Siteless l = refuse 5
-placedIs Placings.Late l = refuse 6
-placedIs (Placings.Accepted p) l = accept (record { part = p; cells = l }) done
-
-abbrev pub judgedRowIs : JudgedRow → List ℕ → Outcome (Body Part) Out
-judgedRowIs r l = accept (record { part = r .part; cells = l }) (judgmentIs (r .judgment))
-
-abbrev pub checkedIs : Checked → Body Part → Outcome (Body Part) Out
-checkedIs Checks.Unjudged s = refuse 7
-checkedIs (Checks.Says c) s = accept s (says c)

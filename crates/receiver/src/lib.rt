@@ -1,6 +1,5 @@
 // One row of the watch, without key and links: what was heard around the site that it claims, and the verdict on that site.
 use cells::Height;
-use near_field::Judgment;
 use sites::Claimed;
 use view::EpochId;
 
@@ -88,28 +87,4 @@ pub enum Hearing {
     Siteless,
     Late,
     In(Counting),
-}
-
-// The answers of whole calls on a row, with the part that they leave.
-pub enum Claim {
-    Refused,
-    Accepted(Part),
-}
-
-pub enum Placed {
-    Outside,
-    Siteless,
-    Late,
-    Accepted(Part),
-}
-
-pub struct JudgedRow {
-    pub part: Part,
-    pub judgment: Judgment,
-}
-
-// Unjudged: never judged since the row was made (7).
-pub enum Checked {
-    Unjudged,
-    Says(CheckState),
 }

@@ -15,11 +15,11 @@ abbrev μ-loop : tie.MeasureT-loop
 loop-holds : tie.Need-loop-holds Inv-loop μ-loop
 loop-holds c = (search needs, search (cells-begin, needs))
 
-mul-wide : tie.Need-mul-wide Inv-loop μ-loop
-mul-wide c = search needs
+mul-wide32 : tie.Need-mul-wide32 Inv-loop μ-loop
+mul-wide32 c = search needs
 
-shared-slice-read-wide : tie.Need-shared-slice-read-wide Inv-loop μ-loop
-shared-slice-read-wide c = search needs
+shared-slice-read-wide32 : tie.Need-shared-slice-read-wide32 Inv-loop μ-loop
+shared-slice-read-wide32 c = search needs
 
 wide32-requires : tie.Need-wide32-requires Inv-loop μ-loop
 wide32-requires c κs = search needs
@@ -46,8 +46,8 @@ mix-cells-spec =
     Inv-loop
     μ-loop
     loop-holds
-    mul-wide
-    shared-slice-read-wide
+    mul-wide32
+    shared-slice-read-wide32
     wide32-requires
     mix-requires
     add-i
