@@ -172,6 +172,10 @@ module _ (i a z : ℕ) (ea : a ≡ wordsOfRow * i) (ez : z ≡ wordsOfRow * i + 
   pub part-wide : length ys ≡ z - a → 23 ≤ length ys
   part-wide h = omega (arith, part-long h)
 
+  -- room for the verdict
+  pub part-verdict : length ys ≡ z - a → 14 + 7 ≤ length ys
+  part-verdict h = omega (arith, part-long h)
+
 module _ (ws : List ℕ) (i a z : ℕ) (inside : i < length (rowsOf ws)) (ea : a ≡ wordsOfRow * i) (ez : z ≡ wordsOfRow * i + wordsOfRow) where
   wide : z - a ≡ wordsOfRow
   wide = omega (arith, ea, ez)

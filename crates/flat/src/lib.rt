@@ -12,7 +12,7 @@ ghost use mir.Syntax.{w32};
 ghost use mir.Val.{ofZ, toZ, SFits};
 ghost use Rattle.rows.specs.Links.{blank};
 ghost use Rattle.flat.specs.Words as row;
-ghost use Rattle.flat.specs.Words.{low32, wordOf, bytesOf, eight, keyWords, keyOf, wide2, zeros, maybeFits, altitudeWords, altitudeOf, siteWords, siteOf, siteFits, idWords, idOf, lastWord, lastOf, byWords, byOf, verdictWords, runOf, verdictOf, runFits, verdictFits, wordsOfRow, closedOf, rowFits, rowOf, openedOf};
+ghost use Rattle.flat.specs.Words.{low32, wordOf, bytesOf, eight, keyWords, keyOf, wide2, zeros, maybeFits, altitudeWords, altitudeOf, siteWords, siteOf, siteFits, idWords, idOf, lastWord, lastOf, byWords, byOf, verdictWords, runOf, verdictOf, runFits, verdictFits, wordsOfRow, closedOf, rowFits, headFits, rowOf, openedOf};
 ghost use Rattle.flat.specs.Ranges.{Bytes, KeyIn, AltitudeIn, SiteIn, IdIn, ByIn, RunIn, VerdictIn, HeardIn, RowIn};
 ghost use Rattle.flat.specs.Table.{rowsOf};
 use receiver::Heard;
@@ -453,7 +453,7 @@ fn run_fits(words: &[u64], at: usize) -> bool
     rows::both(a, rows::both(b, rows::both(c, d)))
 }
 
-fn verdict_fits(words: &[u64], at: usize) -> bool
+pub fn verdict_fits(words: &[u64], at: usize) -> bool
     requires { ⌜ at + 7 ≤ length (now words) ⌝ }
     ensures { λ r. ⌜ r ≡ verdictFits (drop at (now (words .entry))) ⌝ }
 {
@@ -534,18 +534,27 @@ fn links_fit(words: &[u64]) -> bool
     rows::both(g, rows::both(p, n))
 }
 
-pub fn row_fits(words: &[u64]) -> bool
+// All but the verdict. A look at a row asks this and the verdict apart: each is short enough to be compiled in its place.
+pub fn head_fits(words: &[u64]) -> bool
     requires { ⌜ 23 ≤ length (now words) ⌝ }
-    ensures { λ r. ⌜ r ≡ rowFits (now (words .entry)) ⌝ }
+    ensures { λ r. ⌜ r ≡ headFits (now (words .entry)) ⌝ }
 {
     let key = rows::both(wide2(words, 0), wide2(words, 2));
     let links = links_fit(words);
     let site = site_fits(words, 4);
     let even = maybe_fits(words, 10, most64());
     let odd = maybe_fits(words, 12, most64());
-    let verdict = verdict_fits(words, 14);
-    let parts = rows::both(site, rows::both(even, rows::both(odd, verdict)));
+    let parts = rows::both(site, rows::both(even, odd));
     rows::both(key, rows::both(links, parts))
+}
+
+pub fn row_fits(words: &[u64]) -> bool
+    requires { ⌜ 23 ≤ length (now words) ⌝ }
+    ensures { λ r. ⌜ r ≡ rowFits (now (words .entry)) ⌝ }
+{
+    let head = head_fits(words);
+    let verdict = verdict_fits(words, 14);
+    rows::both(head, verdict)
 }
 
 fn heard_at(words: &[u64]) -> Heard

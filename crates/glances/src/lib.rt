@@ -147,7 +147,9 @@ pub fn look_at(rows: &[u64], at: u32, key: &[u64; 4]) -> Glance
 {
     let a = flat::start_of(at);
     let z = flat::end_of(at);
-    let good = flat::row_fits(&rows[a..z]);
+    let head = flat::head_fits(&rows[a..z]);
+    let verdict = flat::verdict_fits(&rows[a..z], 14);
+    let good = rows::both(head, verdict);
     if good {
         return glance_of(&rows[a..z], key);
     }

@@ -4,71 +4,18 @@ use borrow.Author.Needs.{needs}
 use Rattle.flat.proofs.row_fits.Statement.{statement}
 use Rattle.flat.proofs.row_fits.Tie as tie
 
-wide2-requires : tie.Need-wide2-requires
-wide2-requires c κs = search needs
-
-wide2-requires-2 : tie.Need-wide2-requires-2
-wide2-requires-2 c κs = search needs
-
-both-requires : tie.Need-both-requires
-both-requires c κs = search needs
-
-links-fit-requires : tie.Need-links-fit-requires
-links-fit-requires c κs = search needs
-
-site-fits-requires : tie.Need-site-fits-requires
-site-fits-requires c κs = search needs
-
-most64-requires : tie.Need-most64-requires
-most64-requires c κs = search needs
-
-maybe-fits-requires : tie.Need-maybe-fits-requires
-maybe-fits-requires c κs = search needs
-
-most64-requires-2 : tie.Need-most64-requires-2
-most64-requires-2 c κs = search needs
-
-maybe-fits-requires-2 : tie.Need-maybe-fits-requires-2
-maybe-fits-requires-2 c κs = search needs
+head-fits-requires : tie.Need-head-fits-requires
+head-fits-requires c κs = search needs
 
 verdict-fits-requires : tie.Need-verdict-fits-requires
 verdict-fits-requires c κs = search needs
 
-both-requires-2 : tie.Need-both-requires-2
-both-requires-2 c κs = search needs
-
-both-requires-3 : tie.Need-both-requires-3
-both-requires-3 c κs = search needs
-
-both-requires-4 : tie.Need-both-requires-4
-both-requires-4 c κs = search needs
-
-both-requires-5 : tie.Need-both-requires-5
-both-requires-5 c κs = search needs
-
-both-requires-6 : tie.Need-both-requires-6
-both-requires-6 c κs = search needs
+both-requires : tie.Need-both-requires
+both-requires c κs = search needs
 
 returns : tie.Need-returns
 returns c = search (row-fits-is, needs)
 
 pub row-fits-spec : {M : Type 1} → statement M
 row-fits-spec =
-    tie.close
-    (tie.spec
-    wide2-requires
-    wide2-requires-2
-    both-requires
-    links-fit-requires
-    site-fits-requires
-    most64-requires
-    maybe-fits-requires
-    most64-requires-2
-    maybe-fits-requires-2
-    verdict-fits-requires
-    both-requires-2
-    both-requires-3
-    both-requires-4
-    both-requires-5
-    both-requires-6
-    returns)
+    tie.close (tie.spec head-fits-requires verdict-fits-requires both-requires returns)

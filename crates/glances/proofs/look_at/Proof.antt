@@ -1,5 +1,6 @@
 -- `glances::look_at` meets its contract: each way out is a law that is cited below, at what the code found.
-use Rattle.flat.proofs.Rows.{start-fits, end-in, part-wide}
+use Rattle.flat.proofs.Rows.{start-fits, end-in, part-wide, part-verdict}
+use Rattle.flat.proofs.Opening.{row-fits-is}
 use Rattle.glances.proofs.Places.{look-fits, look-junk}
 use borrow.Author.Needs.{needs}
 use Rattle.glances.proofs.look_at.Statement.{statement}
@@ -11,20 +12,38 @@ start-of-requires c κs = search needs
 end-of-requires : tie.Need-end-of-requires
 end-of-requires c κs = search needs
 
-mul-row-fits : tie.Need-mul-row-fits
-mul-row-fits c = search (start-fits, needs)
+mul-head-fits : tie.Need-mul-head-fits
+mul-head-fits c = search (start-fits, needs)
 
-sub-row-fits : tie.Need-sub-row-fits
-sub-row-fits c = search needs
+sub-head-fits : tie.Need-sub-head-fits
+sub-head-fits c = search needs
 
-part-row-fits-start : tie.Need-part-row-fits-start
-part-row-fits-start c = search needs
+part-head-fits-start : tie.Need-part-head-fits-start
+part-head-fits-start c = search needs
 
-part-row-fits-end : tie.Need-part-row-fits-end
-part-row-fits-end c = search (end-in, needs)
+part-head-fits-end : tie.Need-part-head-fits-end
+part-head-fits-end c = search (end-in, needs)
 
-row-fits-requires : tie.Need-row-fits-requires
-row-fits-requires c κs = search (part-wide, needs)
+head-fits-requires : tie.Need-head-fits-requires
+head-fits-requires c κs = search (part-wide, needs)
+
+mul-verdict-fits : tie.Need-mul-verdict-fits
+mul-verdict-fits c = search (start-fits, needs)
+
+sub-verdict-fits : tie.Need-sub-verdict-fits
+sub-verdict-fits c = search needs
+
+part-verdict-fits-start : tie.Need-part-verdict-fits-start
+part-verdict-fits-start c = search needs
+
+part-verdict-fits-end : tie.Need-part-verdict-fits-end
+part-verdict-fits-end c = search (end-in, needs)
+
+verdict-fits-requires : tie.Need-verdict-fits-requires
+verdict-fits-requires c κs = search (part-verdict, needs)
+
+both-requires : tie.Need-both-requires
+both-requires c κs = search needs
 
 mul-glance-of : tie.Need-mul-glance-of
 mul-glance-of c = search (start-fits, needs)
@@ -42,13 +61,13 @@ glance-of-requires : tie.Need-glance-of-requires
 glance-of-requires c κs = search (part-wide, needs)
 
 returns : tie.Need-returns
-returns c = search (look-fits, needs)
+returns c = search (look-fits, row-fits-is, needs)
 
 junk-glance-requires : tie.Need-junk-glance-requires
 junk-glance-requires c κs = search needs
 
 returns-2 : tie.Need-returns-2
-returns-2 c = search (look-junk, needs)
+returns-2 c = search (look-junk, row-fits-is, needs)
 
 pub look-at-spec : {M : Type 1} → statement M
 look-at-spec =
@@ -56,11 +75,17 @@ look-at-spec =
     (tie.spec
     start-of-requires
     end-of-requires
-    mul-row-fits
-    sub-row-fits
-    part-row-fits-start
-    part-row-fits-end
-    row-fits-requires
+    mul-head-fits
+    sub-head-fits
+    part-head-fits-start
+    part-head-fits-end
+    head-fits-requires
+    mul-verdict-fits
+    sub-verdict-fits
+    part-verdict-fits-start
+    part-verdict-fits-end
+    verdict-fits-requires
+    both-requires
     mul-glance-of
     sub-glance-of
     part-glance-of-start
