@@ -92,6 +92,9 @@ name-length name.Site = omega arith
 name-length name.Value = omega arith
 name-length name.Verdict = omega arith
 name-length name.Wrongs = omega arith
+name-length name.K = omega arith
+name-length name.Next = omega arith
+name-length name.Room = omega arith
 
 -- a text, a part and a text
 module _ (a : List ℕ) where

@@ -1,7 +1,7 @@
 // What a line is answered, as text, put into a buffer that is lent.
 mod fault;
 mod phrase;
-mod put;
+pub mod put;
 mod words;
 
 use session::Told;

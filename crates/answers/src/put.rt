@@ -31,7 +31,7 @@ fn put_front(out: &mut [u8], n: usize, p: Phrase) -> usize
 }
 
 // Two hex digits, the last of sixteen.
-fn put_byte(out: &mut [u8], n: usize, byte: u8) -> usize
+pub fn put_byte(out: &mut [u8], n: usize, byte: u8) -> usize
     ensures { λ r. ⌜ Wrote (now (out .entry)) n (digits 16 2 byte) (now (out .exit)) r ⌝ }
 {
     let mut own = [0u8; 16];

@@ -14,13 +14,15 @@ use Rattle.lines.specs.declared.Line.the-variants.{At, TooLong, Nothing}
 use Rattle.grammar.specs.Lines.{lineOf}
 use Rattle.grammar.specs.declared.Said.{Said}
 use Rattle.grammar.specs.declared.Fault.the-variants as fault
-use Rattle.lending.specs.Lendings.{Room}
+use Rattle.print.specs.Print.{putIn}
+use Rattle.lending.specs.Lendings.{Room, lentTo}
 use Rattle.session.specs.Watches.{Ran, Opened, plainly}
 use Rattle.lending.specs.declared.Size.{Size}
 use Rattle.session.specs.declared.Told.{Told}
 use Rattle.session.specs.declared.Reply.{Reply}
 use Rattle.session.specs.declared.Reply.the-variants as reply
-use Rattle.answers.specs.Answers.{textOf, answeredIn, answeredEnd}
+use Rattle.answers.specs.Answers.{textOf, answeredIn, answeredEnd, Wrote}
+use Rattle.rounds.specs.Rounds.{lineText}
 use Rattle.calls.specs.declared.input.After.{After}
 use Rattle.calls.specs.declared.input.State.{State}
 use Rattle.calls.specs.Inputs.{Lent, Came, numberOf, roomOf, Answered, Stepped}
@@ -47,35 +49,32 @@ unfolding Opened
 opened-lent xs ys ws xs' ys' ws' z r h room lx ly = record { within = rw (h .2) (omega arith, omega arith); room = (omega arith, omega arith) }
 
 -- ---- where the answer goes
-pub room-full : (n : ℕ) → 65000 < n → 0 ≡ roomOf n
+pub room-full : (n : ℕ) → 61000 < n → 0 ≡ roomOf n
 unfolding roomOf
-room-full n h = rw (lt-ltb 65000 n h)
+room-full n h = rw (lt-ltb 61000 n h)
 
-pub room-left : (n : ℕ) → n ≤ 65000 → n ≡ roomOf n
+pub room-left : (n : ℕ) → n ≤ 61000 → n ≡ roomOf n
 unfolding roomOf
-room-left n h = rw (le-ltb 65000 n h)
+room-left n h = rw (le-ltb 61000 n h)
 
 -- an answer starts 128 bytes before the buffer's end, or earlier: it is put whole
 room-enough : (out : List ℕ) (n : ℕ) → 65536 ≤ length out → roomOf n + 128 ≤ length out
 unfolding roomOf
-room-enough out n h = by (ltb 65000 n) refl where
-  by : (b : Bool) → ltb 65000 n ≡ b → cond b 0 n + 128 ≤ length out
+room-enough out n h = by (ltb 61000 n) refl where
+  by : (b : Bool) → ltb 61000 n ≡ b → cond b 0 n + 128 ≤ length out
   by true e = omega arith
-  by false e = omega (arith, ltb-false 65000 n e)
+  by false e = omega (arith, ltb-false 61000 n e)
 
-module _ (line : Line) (b : List ℕ) (number : ℕ) (z : Size) (xs ys ws out xs' ys' ws' out' : List ℕ) (n at m : ℕ) (told : Told) where
-  pub answered-is : Came line b z xs ys ws xs' ys' ws' told → at ≡ roomOf n → 65536 ≤ length out → m ≡ answeredEnd out at (textOf told number b) → out' ≡ answeredIn out at (textOf told number b)
-      → Answered line b number z xs ys ws out xs' ys' ws' out' n (record { size = told .size; n = m })
+module _ (line : Line) (b : List ℕ) (number : ℕ) (z : Size) (xs ys ws out xs' ys' ws' out1 out' : List ℕ) (n at m r : ℕ) (told : Told) (said : Said) where
+  pub answered-is : Came line b z xs ys ws xs' ys' ws' told → at ≡ roomOf n → 65536 ≤ length out → m ≡ answeredEnd out at (textOf told number b) → out1 ≡ answeredIn out at (textOf told number b)
+      → said ≡ lineOf b → Wrote out1 m (lineText (lentTo (told .size) xs' ys' ws') (said .line)) out' r
+      → Answered line b number z xs ys ws out xs' ys' ws' out' n (record { size = told .size; n = r })
   unfolding answeredEnd answeredIn
-  answered-is e f h i j =
+  answered-is e f h i j g w =
       let t = le-leb (roomOf n + 128) (length out) (room-enough out n h) in
-      record {
-        told = told;
-        came = e;
-        size = refl;
-        end = i ∙ (rw (f, t));
-        put = j ∙ (rw (f, t));
-      }
+      let end : m ≡ roomOf n + length (textOf told number b) = i ∙ (rw (f, t)) in
+      let put : out1 ≡ putIn out (roomOf n) (textOf told number b) = j ∙ (rw (f, t)) in
+      record { told = told; came = e; size = refl; put = rw (g, end, put) at w }
 
 pub stepped-is : (s : State) (buf xs ys ws out buf' xs' ys' ws' out' b : List ℕ) (got : Step) (after : After) (number : ℕ) → Next (s .input) (takenOf (s .input) buf) got (takenOf (s .input) buf .line)
     → number ≡ numberOf (got .line) (s .lines) → b ≡ bytesOf buf' (got .line) → Answered (got .line) b number (s .size) xs ys ws out xs' ys' ws' out' (s .n) after

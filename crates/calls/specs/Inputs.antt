@@ -12,12 +12,13 @@ use Rattle.lines.specs.declared.Line.{Line}
 use Rattle.lines.specs.declared.Line.the-variants.{At, TooLong, Nothing}
 use Rattle.grammar.specs.Lines.{lineOf}
 use Rattle.grammar.specs.declared.Fault.the-variants as fault
-use Rattle.lending.specs.Lendings.{Within, Room}
+use Rattle.lending.specs.Lendings.{Within, Room, lentTo}
 use Rattle.session.specs.Watches.{Stays, Ran}
 use Rattle.lending.specs.declared.Size.{Size}
 use Rattle.session.specs.declared.Told.{Told}
 use Rattle.session.specs.declared.Reply.the-variants as reply
-use Rattle.answers.specs.Answers.{textOf}
+use Rattle.answers.specs.Answers.{textOf, Wrote}
+use Rattle.rounds.specs.Rounds.{lineText}
 use Rattle.calls.specs.declared.input.After.{After}
 use Rattle.calls.specs.declared.input.State.{State}
 
@@ -43,15 +44,14 @@ numberOf Nothing n = n
 
 -- where the next answer goes: answers that fill the buffer nearly are written first
 unfoldable pub roomOf : ℕ → ℕ
-roomOf n = cond (ltb 65000 n) 0 n
+roomOf n = cond (ltb 61000 n) 0 n
 
--- a line's answer, whole in the buffer
+-- a line's answer, whole in the buffer, and a tick's behind it: of any line one of the two is empty
 pub record Answered (line : Line) (b : List ℕ) (number : ℕ) (z : Size) (xs ys ws out xs' ys' ws' out' : List ℕ) (n : ℕ) (r : After) : Type 0 where
   pub told : Told
   pub came : Came line b z xs ys ws xs' ys' ws' told
   pub size : r .size ≡ told .size
-  pub end : r .n ≡ roomOf n + length (textOf told number b)
-  pub put : out' ≡ putIn out (roomOf n) (textOf told number b)
+  pub put : Wrote (putIn out (roomOf n) (textOf told number b)) (roomOf n + length (textOf told number b)) (lineText (lentTo (told .size) xs' ys' ws') (lineOf b .line)) out' (r .n)
 
 -- a turn: the next line is taken or more is read, and what came is answered
 pub record Stepped (s : State) (buf xs ys ws out buf' xs' ys' ws' out' : List ℕ) (r : State) : Type 0 where

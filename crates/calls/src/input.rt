@@ -33,7 +33,7 @@ pub struct After {
 fn room(out: &[u8], n: usize) -> usize
     ensures { λ r. ⌜ r ≡ roomOf n ⌝ }
 {
-    if n > 65000 {
+    if n > 61000 {
         io::write_all(STDOUT_FILENO, fields::part(out, 0, n));
         0
     } else {
@@ -73,7 +73,7 @@ fn number_of(line: Line, lines: u64) -> u64
     }
 }
 
-// Runs a line, and puts its answer.
+// Runs a line, and puts its answer; a tick's is the turn keeper's, which leaves the watch as it is.
 fn answer(
     z: Size,
     rows: &mut [u64],
@@ -92,7 +92,10 @@ fn answer(
     let size = told.size;
     let at = room(out, n);
     let m = answers::put_told(out, at, told, number, bytes);
-    After { size, n: m }
+    let said = grammar::read(bytes);
+    let asked = said.line;
+    let end = rounds::put_line(size, rows, cells, ends, asked, out, m);
+    After { size, n: end }
 }
 
 // Answers the next line, or reads more where no line is whole.

@@ -29,16 +29,16 @@ use Rattle.grammar.specs.declared.place.Two.{Two}
 use Rattle.grammar.specs.declared.place.Four.{Four}
 use Rattle.grammar.specs.declared.place.SiteHeld.{SiteHeld}
 use Rattle.grammar.specs.Fields.{startAt, wholeAt, smallAt, linkAt, feetAt, keyAt, endedAt, twoAt, fourAt, claimAt, partAt, linksAt}
-use Rattle.grammar.specs.Lines.{wordPlace, wordSame, wordHorizon, wordBucket, wordBit, wordFresh, wordDrop, wordCheck, wordTakeout, wordClaim, wordPosition, wordJudging, wordWatch, wordDigest, wordLend, wordRow, wordCell, wordEnds, pickOf, whichSingle, whichCall, whichLent, whichOf, saying, toldBy, bareLine, keyLine, watchLine, claimLine, positionLine, judgingLine, placeLine, sameLine, horizonLine, bucketLine, bitLine, lendLine, rowLine, cellLine, endsLine, lineBy, callOf, returnAtEnd, textBy, textOf, lineOf}
+use Rattle.grammar.specs.Lines.{wordPlace, wordSame, wordHorizon, wordBucket, wordBit, wordFresh, wordDrop, wordCheck, wordTakeout, wordClaim, wordPosition, wordJudging, wordTurn, wordWatch, wordDigest, wordLend, wordRow, wordCell, wordEnds, pickOf, whichSingle, whichCall, whichLent, whichOf, saying, toldBy, bareLine, keyLine, watchLine, claimLine, positionLine, judgingLine, turnLine, placeLine, sameLine, horizonLine, bucketLine, bitLine, lendLine, rowLine, cellLine, endsLine, lineBy, callOf, returnAtEnd, textBy, textOf, lineOf}
 
 -- ---- the words
 pub which-single : (w : List ℕ) (other k1 k2 k3 k4 k5 : Kind) → k1 ≡ pickOf w wordPlace kind.Place other → k2 ≡ pickOf w wordSame kind.Same k1 → k3 ≡ pickOf w wordHorizon kind.Horizon k2 → k4 ≡ pickOf w wordBucket kind.Bucket k3 → k5 ≡ pickOf w wordBit kind.Bit k4 → k5 ≡ whichSingle w other
 unfolding whichSingle
 which-single w other k1 k2 k3 k4 k5 e1 e2 e3 e4 e5 = rw (e5, e4, e3, e2, e1)
 
-pub which-call : (w : List ℕ) (other k1 k2 k3 k4 k5 k6 k7 : Kind) → k1 ≡ pickOf w wordFresh kind.Fresh other → k2 ≡ pickOf w wordDrop kind.Drop k1 → k3 ≡ pickOf w wordCheck kind.Check k2 → k4 ≡ pickOf w wordTakeout kind.TakeOut k3 → k5 ≡ pickOf w wordClaim kind.Claim k4 → k6 ≡ pickOf w wordPosition kind.Position k5 → k7 ≡ pickOf w wordJudging kind.Judging k6 → k7 ≡ whichCall w other
+pub which-call : (w : List ℕ) (other k1 k2 k3 k4 k5 k6 k7 k8 : Kind) → k1 ≡ pickOf w wordFresh kind.Fresh other → k2 ≡ pickOf w wordDrop kind.Drop k1 → k3 ≡ pickOf w wordCheck kind.Check k2 → k4 ≡ pickOf w wordTakeout kind.TakeOut k3 → k5 ≡ pickOf w wordClaim kind.Claim k4 → k6 ≡ pickOf w wordPosition kind.Position k5 → k7 ≡ pickOf w wordJudging kind.Judging k6 → k8 ≡ pickOf w wordTurn kind.Turn k7 → k8 ≡ whichCall w other
 unfolding whichCall
-which-call w other k1 k2 k3 k4 k5 k6 k7 e1 e2 e3 e4 e5 e6 e7 = rw (e7, e6, e5, e4, e3, e2, e1)
+which-call w other k1 k2 k3 k4 k5 k6 k7 k8 e1 e2 e3 e4 e5 e6 e7 e8 = rw (e8, e7, e6, e5, e4, e3, e2, e1)
 
 pub which-lent : (w : List ℕ) (other k1 k2 k3 k4 k5 k6 : Kind) → k1 ≡ pickOf w wordWatch kind.Watch other → k2 ≡ pickOf w wordDigest kind.Digest k1 → k3 ≡ pickOf w wordLend kind.Lend k2 → k4 ≡ pickOf w wordRow kind.Row k3 → k5 ≡ pickOf w wordCell kind.Cell k4 → k6 ≡ pickOf w wordEnds kind.Ends k5 → k6 ≡ whichLent w other
 unfolding whichLent
@@ -116,6 +116,10 @@ module _ (t : List ℕ) (p : Place) where
   pub cell-line : (a b : Small) (r : Said) → a ≡ smallAt t p name.Number → b ≡ smallAt t (a .place) name.Value → r ≡ saying (toldBy (endedAt t (b .place) name.Value) (line.Cell (a .n) (b .n))) → r ≡ cellLine t p
   unfolding cellLine
   cell-line a b r h1 h2 h3 = rw (h3, h2, h1)
+
+  pub turn-line : (a b d : Small) (r : Said) → a ≡ smallAt t p name.Next → b ≡ smallAt t (a .place) name.K → d ≡ smallAt t (b .place) name.Room → r ≡ saying (toldBy (endedAt t (d .place) name.Room) (line.Turn (a .n) (b .n) (d .n))) → r ≡ turnLine t p
+  unfolding turnLine
+  turn-line a b d r h1 h2 h3 h4 = rw (h4, h3, h2, h1)
 
   pub ends-line : (a b d : Small) (r : Said) → a ≡ linkAt t p name.First → b ≡ linkAt t (a .place) name.Last → d ≡ linkAt t (b .place) name.Free → r ≡ saying (toldBy (endedAt t (d .place) name.Free) (line.Ends (a .n) (b .n) (d .n))) → r ≡ endsLine t p
   unfolding endsLine

@@ -65,6 +65,9 @@ wordPosition = 112 ∷ 111 ∷ 115 ∷ 105 ∷ 116 ∷ 105 ∷ 111 ∷ 110 ∷ [
 abbrev pub wordJudging : List ℕ
 wordJudging = 106 ∷ 117 ∷ 100 ∷ 103 ∷ 105 ∷ 110 ∷ 103 ∷ []
 
+abbrev pub wordTurn : List ℕ
+wordTurn = 116 ∷ 117 ∷ 114 ∷ 110 ∷ []
+
 abbrev pub wordWatch : List ℕ
 wordWatch = 119 ∷ 97 ∷ 116 ∷ 99 ∷ 104 ∷ []
 
@@ -90,7 +93,7 @@ unfoldable pub whichSingle : List ℕ → Kind → Kind
 whichSingle w other = pickOf w wordBit kind.Bit (pickOf w wordBucket kind.Bucket (pickOf w wordHorizon kind.Horizon (pickOf w wordSame kind.Same (pickOf w wordPlace kind.Place other))))
 
 unfoldable pub whichCall : List ℕ → Kind → Kind
-whichCall w other = pickOf w wordJudging kind.Judging (pickOf w wordPosition kind.Position (pickOf w wordClaim kind.Claim (pickOf w wordTakeout kind.TakeOut (pickOf w wordCheck kind.Check (pickOf w wordDrop kind.Drop (pickOf w wordFresh kind.Fresh other))))))
+whichCall w other = pickOf w wordTurn kind.Turn (pickOf w wordJudging kind.Judging (pickOf w wordPosition kind.Position (pickOf w wordClaim kind.Claim (pickOf w wordTakeout kind.TakeOut (pickOf w wordCheck kind.Check (pickOf w wordDrop kind.Drop (pickOf w wordFresh kind.Fresh other)))))))
 
 unfoldable pub whichLent : List ℕ → Kind → Kind
 whichLent w other = pickOf w wordEnds kind.Ends (pickOf w wordCell kind.Cell (pickOf w wordRow kind.Row (pickOf w wordLend kind.Lend (pickOf w wordDigest kind.Digest (pickOf w wordWatch kind.Watch other)))))
@@ -170,6 +173,19 @@ judgingBy t k = judgingAt t k (wholeAt t (k .place) (2 ^ 64 - 1) name.NowMs)
 
 unfoldable pub judgingLine : List ℕ → Place → Said
 judgingLine t p = judgingBy t (keyAt t p)
+
+-- turn NEXT K ROOM
+abbrev pub turnOf : List ℕ → Small → Small → Small → Said
+turnOf t a b d = saying (toldBy (endedAt t (d .place) name.Room) (line.Turn (a .n) (b .n) (d .n)))
+
+abbrev pub turnOn : List ℕ → Small → Small → Said
+turnOn t a b = turnOf t a b (smallAt t (b .place) name.Room)
+
+abbrev pub turnBy : List ℕ → Small → Said
+turnBy t a = turnOn t a (smallAt t (a .place) name.K)
+
+unfoldable pub turnLine : List ℕ → Place → Said
+turnLine t p = turnBy t (smallAt t p name.Next)
 
 -- place LAT1 LON1 LAT2 LON2, same LAT1 LON1 LAT2 LON2
 abbrev pub placeOf : List ℕ → Four → Said
@@ -264,6 +280,7 @@ lineBy kind.TakeOut t end p = keyLine t p (line.Call call.TakeOut)
 lineBy kind.Claim t end p = claimLine t p
 lineBy kind.Position t end p = positionLine t p
 lineBy kind.Judging t end p = judgingLine t p
+lineBy kind.Turn t end p = turnLine t p
 lineBy kind.Digest t end p = bareLine t p line.Digest
 lineBy kind.Place t end p = placeLine t p
 lineBy kind.Same t end p = sameLine t p

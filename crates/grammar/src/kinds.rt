@@ -9,7 +9,7 @@ use crate::place::Place;
 use receiver::Position;
 ghost use mathlib.Core.Path.{_≡_};
 ghost use Rattle.grammar.specs.Fields.{endedAt};
-ghost use Rattle.grammar.specs.Lines.{pickOf, whichSingle, whichCall, whichLent, whichOf, toldBy, saying, bareLine, keyLine, watchLine, claimLine, positionLine, judgingLine, placeLine, sameLine, horizonLine, bucketLine, bitLine, lendLine, rowLine, cellLine, endsLine, lineBy};
+ghost use Rattle.grammar.specs.Lines.{pickOf, whichSingle, whichCall, whichLent, whichOf, toldBy, saying, bareLine, keyLine, watchLine, claimLine, positionLine, judgingLine, turnLine, placeLine, sameLine, horizonLine, bucketLine, bitLine, lendLine, rowLine, cellLine, endsLine, lineBy};
 
 pub enum Kind {
     Watch,
@@ -20,6 +20,7 @@ pub enum Kind {
     Claim,
     Position,
     Judging,
+    Turn,
     Digest,
     Place,
     Same,
@@ -61,7 +62,8 @@ fn which_call(w: &[u8], other: Kind) -> Kind
     let d = pick(w, b"takeout", Kind::TakeOut, c);
     let e = pick(w, b"claim", Kind::Claim, d);
     let f = pick(w, b"position", Kind::Position, e);
-    pick(w, b"judging", Kind::Judging, f)
+    let g = pick(w, b"judging", Kind::Judging, f);
+    pick(w, b"turn", Kind::Turn, g)
 }
 
 fn which_lent(w: &[u8], other: Kind) -> Kind
@@ -196,6 +198,27 @@ fn judging_line(t: &[u8], p: Place) -> Said
         ),
         key,
     }
+}
+
+fn turn_line(t: &[u8], p: Place) -> Said
+    ensures { λ r. ⌜ r ≡ turnLine (now (t .entry)) p ⌝ }
+{
+    let a = place::small_at(t, p, Name::Next);
+    let pa = a.place;
+    let b = place::small_at(t, pa, Name::K);
+    let pb = b.place;
+    let d = place::small_at(t, pb, Name::Room);
+    let pd = d.place;
+    closed(
+        t,
+        pd,
+        Name::Room,
+        Line::Turn {
+            next: a.n,
+            k: b.n,
+            room: d.n,
+        },
+    )
 }
 
 fn place_line(t: &[u8], p: Place) -> Said
@@ -349,6 +372,7 @@ pub fn line_of(kind: Kind, t: &[u8], end: usize, p: Place) -> Said
         Kind::Claim => claim_line(t, p),
         Kind::Position => position_line(t, p),
         Kind::Judging => judging_line(t, p),
+        Kind::Turn => turn_line(t, p),
         Kind::Digest => bare_line(t, p, Line::Digest),
         Kind::Place => place_line(t, p),
         Kind::Same => same_line(t, p),

@@ -28,6 +28,7 @@ pub enum Name {
     First,
     Free,
     Generation,
+    K,
     Key,
     Last,
     Lat,
@@ -37,10 +38,12 @@ pub enum Name {
     Lon1,
     Lon2,
     Moved,
+    Next,
     NowMs,
     Number,
     Odd,
     Others,
+    Room,
     Rows,
     Site,
     Value,
@@ -84,6 +87,12 @@ pub enum Line {
         rows: u32,
     },
     Call(Call),
+    // A tick of the turn keeper, with a list of so many keys.
+    Turn {
+        next: u32,
+        k: u32,
+        room: u32,
+    },
     Digest,
     Place {
         lat1: f64,

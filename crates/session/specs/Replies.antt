@@ -24,7 +24,7 @@ sameOf a b = cond (held a && held b) (reply.Same (samePlace a b)) (reply.No 4)
 unfoldable pub bitOf : ℕ → ℕ
 bitOf address = trailingZeros 16 (aircraftBit address)
 
--- a line of the watch gets no answer here
+-- a line of the watch gets no answer here, nor does a tick (crate `rounds` has it)
 abbrev pub replyOf : Line → Reply
 replyOf line.Nothing = reply.Nothing
 replyOf (line.Wrong f) = reply.Wrong f
@@ -35,6 +35,7 @@ replyOf (line.Bucket feet) = reply.Bucket (bucketOf feet)
 replyOf (line.Bit address) = reply.Bit (bitOf address)
 replyOf (line.Watch c) = reply.Nothing
 replyOf (line.Call c) = reply.Nothing
+replyOf (line.Turn n k m) = reply.Nothing
 replyOf line.Digest = reply.Nothing
 replyOf (line.Lend c n) = reply.Nothing
 replyOf (line.Row i p a b) = reply.Nothing

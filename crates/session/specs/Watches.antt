@@ -100,6 +100,7 @@ viewOf (line.Same a b c d) = view.Plain
 viewOf (line.Horizon a b) = view.Plain
 viewOf (line.Bucket f) = view.Plain
 viewOf (line.Bit a) = view.Plain
+viewOf (line.Turn n k m) = view.Plain
 viewOf line.Digest = view.Digest
 viewOf (line.Lend c n) = view.Write (change.Lend c n)
 viewOf (line.Row i p a b) = view.Write (change.Row i p a b)

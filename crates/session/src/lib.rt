@@ -184,6 +184,11 @@ fn view_of(line: Line) -> View
         Line::Horizon { a: _, b: _ } => View::Plain,
         Line::Bucket(_) => View::Plain,
         Line::Bit { address: _ } => View::Plain,
+        Line::Turn {
+            next: _,
+            k: _,
+            room: _,
+        } => View::Plain,
         Line::Digest => View::Digest,
         Line::Lend { rows: c, cells: n } => View::Write(Change::Lend { rows: c, cells: n }),
         Line::Row {

@@ -59,6 +59,11 @@ pub fn answer(line: Line) -> Reply
         Line::Bit { address } => Reply::Bit(bit(address)),
         Line::Watch { rows: _ } => Reply::Nothing,
         Line::Call(_) => Reply::Nothing,
+        Line::Turn {
+            next: _,
+            k: _,
+            room: _,
+        } => Reply::Nothing,
         Line::Digest => Reply::Nothing,
         Line::Lend { rows: _, cells: _ } => Reply::Nothing,
         Line::Row {

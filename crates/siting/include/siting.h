@@ -23,7 +23,7 @@ uint16_t siting_place(double site_lat, double site_lon, double lat, double lon);
 /* The seven calls over a watch that the caller lends: rows of 23 numbers each (rows_len is 23 times the receivers), 3,344 cells for each row, and the
    row numbers of the first used, the last used and the first free row (4294967295 for none). They need not be in order: what is no watch is refused
    with 1 or 2. A call answers in nine numbers:
-     answer[0]  0 refused, 1 a generation (claim), 2 a judgment, 3 a state (check), 4 the key freed, 5 accepted
+     answer[0]  0 refused, 1 a generation (claim), 2 a judgment, 3 a state (check), 4 the key freed, 5 accepted (6 is siting_turn's, below)
      answer[1]  the number of the question that was answered no; the generation; or 0 unjudged, 1 fits, 2 wrong
      answer[2]  the distance in km, if wrong
      answer[3]  the evidence of a judgment: 1 horizon, 2 near field, 3 nothing near
@@ -69,6 +69,14 @@ void siting_judging(uint64_t *rows, size_t rows_len, uint32_t *cells, size_t cel
 void siting_check(uint64_t *rows, size_t rows_len, uint32_t *cells, size_t cells_len, uint32_t ends[3], uint64_t answer[9], const uint64_t key[4]);
 void siting_take_out(uint64_t *rows, size_t rows_len, uint32_t *cells, size_t cells_len, uint32_t ends[3], uint64_t answer[9], const uint64_t key[4]);
 void siting_drop_oldest(uint64_t *rows, size_t rows_len, uint32_t *cells, size_t cells_len, uint32_t ends[3], uint64_t answer[9]);
+
+/* A tick of the turn keeper: it names the k rows from number `next` on, in ascending number, going round to 0 (a next of the rows' number or more counts
+   as 0), and writes the keys of the used ones in that order from the start of the list, 32 bytes each; the rest of the list stays. The watch is only
+   read. In `answer`: 6, how many keys were written, and the next row number, to be handed to the next tick; or 0 and 1, 2, or 8 where k is not from 1
+   to the rows' number or the list holds fewer than k keys (list_len div 32), and then no byte of the list has changed. Ticks of one k name every row
+   within rows / k ticks, one more if that leaves a remainder. */
+void siting_turn(const uint64_t *rows, size_t rows_len, const uint32_t *cells, size_t cells_len, const uint32_t ends[3], uint64_t answer[9],
+                 uint32_t next, uint32_t k, uint8_t *list, size_t list_len);
 
 #ifdef __cplusplus
 }

@@ -1,9 +1,11 @@
-// The C functions for the relay's Rust: the horizon and the placing of a position here, the seven calls in `calls`. include/siting.h declares them.
+// The C functions for the relay's Rust: the horizon and the placing of a position here, the seven calls in `calls`, the turn keeper in `ticks`. include/siting.h
+// declares them.
 ghost use mathlib.Core.Path.{_≡_};
 ghost use Rattle.floats.specs.Horizon.{horizon};
 ghost use Rattle.sites.specs.Sites.{placing};
 
 pub mod calls;
+pub mod ticks;
 
 // The radio horizon in km of an antenna and an aircraft so many metres up.
 #[no_mangle]

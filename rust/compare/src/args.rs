@@ -3,7 +3,7 @@
 use siting::list::unhex;
 
 /// The names of the checks, in the order in which they run.
-pub const CHECKS: [&str; 10] = [
+pub const CHECKS: [&str; 11] = [
     "place",
     "coverage",
     "same",
@@ -13,6 +13,7 @@ pub const CHECKS: [&str; 10] = [
     "lists",
     "full",
     "stored",
+    "turns",
     "endurance",
 ];
 
@@ -29,6 +30,8 @@ pub struct Args {
     pub calls: u64,
     /// Calls of the lists on 4,096 rows, at least.
     pub full: u64,
+    /// Ticks of the turn keeper, at least.
+    pub ticks: u64,
     /// Calls of the endurance, and the seconds after which it ends all the same; 0 for no end.
     pub endurance: u64,
     pub seconds: u64,
@@ -49,7 +52,7 @@ pub struct Args {
 
 /// How it is called.
 pub const USAGE: &str =
-    "compare [--seed N] [--count N] [--judgings N] [--calls N] [--full N] [--endurance N] [--seconds N] [--only CHECK,CHECK..] [--all]
+    "compare [--seed N] [--count N] [--judgings N] [--calls N] [--full N] [--ticks N] [--endurance N] [--seconds N] [--only CHECK,CHECK..] [--all]
         compare --input place|same|horizon BITS..
         compare [--seed N] --write-vectors FOLDER
         compare --replay FILE
@@ -59,9 +62,10 @@ pub const USAGE: &str =
   --judgings N   judgings that reach each branch, at least (1,000)
   --calls N      calls in the lists, at least (250,000)
   --full N       calls in the lists on 4,096 rows, at least (8,000)
+  --ticks N      ticks of the turn keeper, at least (50,000)
   --endurance N  random calls on random watches (200,000)
   --seconds N    the endurance ends after so many seconds at the latest
-  --only LIST    of place, coverage, same, horizon, range, judge, lists, full, stored, endurance
+  --only LIST    of place, coverage, same, horizon, range, judge, lists, full, stored, turns, endurance
   --all          a check that is skipped counts as failed
   --input ..     shows both answers to one input, its floats as 16 hex digits each, as a failure prints them
   --write-vectors FOLDER writes the stored answers of the original below the repository's folder: samples/vectors and what the program `vectors` replays
@@ -76,6 +80,7 @@ pub fn parse(words: impl Iterator<Item = String>) -> Result<Args, String> {
         judgings: 1_000,
         calls: 250_000,
         full: 8_000,
+        ticks: 50_000,
         endurance: 200_000,
         seconds: 0,
         only: CHECKS.map(String::from).to_vec(),
@@ -104,6 +109,7 @@ pub fn parse(words: impl Iterator<Item = String>) -> Result<Args, String> {
             "--write-vectors" => args.write_vectors = Some(value),
             "--calls" => args.calls = number()?,
             "--full" => args.full = number()?,
+            "--ticks" => args.ticks = number()?,
             "--endurance" => args.endurance = number()?,
             "--seconds" => args.seconds = number()?,
             "--replay" => args.replay = Some(value),

@@ -25,6 +25,7 @@ mod sphere;
 mod stored;
 mod text;
 mod ticks;
+mod turns;
 mod vectors;
 mod watch;
 
@@ -34,7 +35,7 @@ use oracle::Original;
 use report::{Outcome, hex};
 
 /// The checks that do not ask the original.
-const WITHOUT: [&str; 3] = ["range", "stored", "endurance"];
+const WITHOUT: [&str; 4] = ["range", "stored", "turns", "endurance"];
 
 /// Runs one check; those that ask the original are skipped where it is not there.
 fn run(name: &str, args: &args::Args, reached: &mut place::Reached) -> Outcome {
@@ -53,6 +54,7 @@ fn run(name: &str, args: &args::Args, reached: &mut place::Reached) -> Outcome {
         "lists" => lists::Lists::small().check(seed, args.calls),
         "full" => lists::Lists::full().check(seed, args.full),
         "stored" => stored::check(),
+        "turns" => turns::check(seed, args.ticks),
         _ => endurance::check(seed, args.endurance, args.seconds),
     }
 }
@@ -131,8 +133,8 @@ fn main() -> ExitCode {
         return stored::store(folder, args.seed);
     }
     println!(
-        "seed {}, count {}, judgings {}, calls {}, on 4,096 rows {}, endurance {}",
-        args.seed, args.count, args.judgings, args.calls, args.full, args.endurance
+        "seed {}, count {}, judgings {}, calls {}, on 4,096 rows {}, ticks {}, endurance {}",
+        args.seed, args.count, args.judgings, args.calls, args.full, args.ticks, args.endurance
     );
     let (mut passed, mut failed, mut skipped) = (0, 0, 0);
     let mut reached = place::Reached::new();

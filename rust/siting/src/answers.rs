@@ -54,6 +54,15 @@ pub struct Claimed {
     pub pushed_out: Option<Key>,
 }
 
+/// What an accepted tick of the turn keeper answers.
+#[derive(Clone, Copy, Debug, PartialEq, Eq)]
+pub struct Turned {
+    /// How many keys were written to the list: those of the used rows among the named ones.
+    pub count: usize,
+    /// The next row number, to be handed to the next tick.
+    pub next: u32,
+}
+
 /// By what a site was judged wrong.
 ///
 /// ```
@@ -163,11 +172,13 @@ pub enum Refusal {
     TooOld,
     /// 7: the receiver was not judged since it was made.
     NeverJudged,
+    /// 8: a tick asks for no row or for more than there are, or its list holds too few keys.
+    Turn,
 }
 
 impl Refusal {
     /// All of them, by their numbers.
-    pub const ALL: [Self; 7] = [
+    pub const ALL: [Self; 8] = [
         Self::Sizes,
         Self::NotInOrder,
         Self::NotHeld,
@@ -175,6 +186,7 @@ impl Refusal {
         Self::NoSite,
         Self::TooOld,
         Self::NeverJudged,
+        Self::Turn,
     ];
 
     /// The refusal that a C function's answer says.
@@ -185,7 +197,7 @@ impl Refusal {
             .unwrap_or_else(|| unreachable!("the contract has no refusal {number}"))
     }
 
-    /// The question's number in the scope document, 1 to 7.
+    /// The question's number: 1 to 7 in the scope document, 8 in the requests after it.
     pub fn number(self) -> u8 {
         self as u8
     }
@@ -201,6 +213,9 @@ impl fmt::Display for Refusal {
             Self::NoSite => "the receiver claims no site",
             Self::TooOld => "the position is older than the half that it would be counted in",
             Self::NeverJudged => "the receiver was not judged yet",
+            Self::Turn => {
+                "a tick names from 1 to all rows, and its list holds as many keys at least"
+            }
         };
         write!(f, "{sentence} (refusal {})", self.number())
     }

@@ -1,9 +1,10 @@
 //! The siting watch for a relay in Rust: the proved functions behind safe types.
 //!
 //! A receiver claims a site; the relay tells each position that it hears, judges it each half hour
-//! by what it heard, and asks whether its site is held wrong. [`Watch`] has the seven calls with
-//! memory of its own, [`Lent`] the same calls over memory that the caller owns, [`Refusal`] the
-//! seven reasons for which nothing was done.
+//! by what it heard, and asks whether its site is held wrong. [`Watch`] has the seven calls and the
+//! turn keeper ([`Watch::turn`]: whose turn it is in the half-hour round) with memory of its own,
+//! [`Lent`] the same calls over memory that the caller owns, [`Refusal`] the eight reasons for
+//! which nothing was done.
 //!
 //! ```
 //! use siting::{Position, Refusal, Site, State, Watch};
@@ -29,7 +30,7 @@ pub mod raw;
 mod row;
 mod watch;
 
-pub use answers::{Claimed, Evidence, Judgment, Key, Position, Refusal, Site, State};
+pub use answers::{Claimed, Evidence, Judgment, Key, Position, Refusal, Site, State, Turned};
 pub use cells::{BAND_EDGES_KM, Cell, GRID_SIDE, HALF_CELLS, HALF_MS, ROW_CELLS};
 pub use row::{NONE, ROW_WORDS, Row, words_of};
 pub use watch::{Lent, MOST_ROWS, Watch};

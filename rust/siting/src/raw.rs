@@ -1,8 +1,8 @@
 //! The C functions as `siting.h` declares them, for who calls them without this crate's types.
 //!
 //! Each is total: any bits may be passed. What a caller owes is memory: `rows`, `cells`, `ends`,
-//! `answer` and `key` point to as many numbers as is said, none of them shared while the call
-//! runs. [`crate::Lent`] owes it by its borrows.
+//! `answer`, `key` and `list` point to as many numbers as is said, and none that is written is
+//! shared while the call runs. [`crate::Lent`] owes it by its borrows.
 
 unsafe extern "C" {
     /// The radio horizon: [`crate::horizon_km`].
@@ -71,4 +71,24 @@ over_a_watch! {
 
     /// The least recently used row is freed: [`crate::Lent::drop_oldest`].
     fn siting_drop_oldest();
+}
+
+unsafe extern "C" {
+    /// A tick of the turn keeper, over a watch that is only read and a list of keys of 32 bytes
+    /// each: [`crate::Lent::turn`].
+    ///
+    /// # Safety
+    /// The memory is the caller's to lend, as the module says.
+    pub fn siting_turn(
+        rows: *const u64,
+        rows_len: usize,
+        cells: *const u32,
+        cells_len: usize,
+        ends: *const [u32; 3],
+        answer: *mut [u64; 9],
+        next: u32,
+        k: u32,
+        list: *mut u8,
+        list_len: usize,
+    );
 }

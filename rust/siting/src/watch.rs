@@ -1,10 +1,10 @@
-//! The seven calls over a watch, at any size up to 4,096 receivers.
+//! The seven calls over a watch and the turn keeper, at any size up to 4,096 receivers.
 
 use std::iter::successors;
 
 use crate::cells::{self, Cell, ROW_CELLS};
 use crate::row::{NONE, ROW_WORDS, Row, key_of, linked, words_of};
-use crate::{Claimed, Evidence, Judgment, Key, Position, Refusal, Site, State, raw};
+use crate::{Claimed, Evidence, Judgment, Key, Position, Refusal, Site, State, Turned, raw};
 
 /// The most receivers that a watch has room for.
 pub const MOST_ROWS: usize = 4_096;
@@ -61,6 +61,40 @@ macro_rules! ask {
 fn carried(answer: &[u64; 9]) -> Key {
     let [.., a, b, c, d] = *answer;
     key_of(&[a, b, c, d])
+}
+
+/// A tick of the turn keeper over a watch that is only read.
+fn tick(
+    (rows, cells, ends): (&[u64], &[u32], &[u32; 3]),
+    next: u32,
+    k: u32,
+    list: &mut [Key],
+) -> Result<Turned, Refusal> {
+    let mut answer = [0; 9];
+    let list = list.as_flattened_mut();
+    // SAFETY: pointers and counts are those of borrows that outlive the call, exclusive where the
+    // function writes; it reads and writes within them and keeps nothing.
+    unsafe {
+        raw::siting_turn(
+            rows.as_ptr(),
+            rows.len(),
+            cells.as_ptr(),
+            cells.len(),
+            ends,
+            &mut answer,
+            next,
+            k,
+            list.as_mut_ptr(),
+            list.len(),
+        );
+    }
+    match answer[0] {
+        0 => Err(Refusal::of(answer[1])),
+        _ => Ok(Turned {
+            count: answer[1] as usize,
+            next: answer[2] as u32,
+        }),
+    }
 }
 
 impl<'a> Lent<'a> {
@@ -176,6 +210,32 @@ impl<'a> Lent<'a> {
     pub fn drop_oldest(&mut self) -> Result<Key, Refusal> {
         ask!(siting_drop_oldest, self).map(|answer| carried(&answer))
     }
+
+    /// A tick of the half-hour round, for who can spare only `k` judgings at each: it names the `k`
+    /// rows from number `next` on, in ascending number, going round to 0, and writes the keys of
+    /// the used ones to the start of the list, whose rest stays. The first tick is handed any
+    /// number (one that is no row's counts as 0), each other one [`Turned::next`] of the one before:
+    /// so each row is named within `C / k` ticks, one more if that leaves a remainder, whatever is
+    /// claimed or taken out meanwhile. [`Refusal::Turn`] where `k` is not from 1 to the rows' number
+    /// or the list is shorter than `k`; then nothing is written.
+    ///
+    /// ```
+    /// # use siting::{Refusal, Turned, Watch};
+    /// let mut watch = Watch::new(3)?;
+    /// watch.claim(&[5; 32], None)?; // row 0
+    /// watch.claim(&[6; 32], None)?; // row 1
+    /// let mut list = [[0; 32]; 2];
+    /// let first = watch.lent().turn(0, 2, &mut list)?;
+    /// assert_eq!((first, list), (Turned { count: 2, next: 2 }, [[5; 32], [6; 32]]));
+    /// // Row 2 is free, and after it comes row 0.
+    /// let second = watch.lent().turn(first.next, 2, &mut list)?;
+    /// assert_eq!((second, list[0]), (Turned { count: 1, next: 1 }, [5; 32]));
+    /// assert_eq!(watch.lent().turn(0, 3, &mut list), Err(Refusal::Turn));
+    /// # Ok::<(), Refusal>(())
+    /// ```
+    pub fn turn(&self, next: u32, k: u32, list: &mut [Key]) -> Result<Turned, Refusal> {
+        tick((self.rows, self.cells, self.ends), next, k, list)
+    }
 }
 
 /// A watch with its memory, which is all that it is: two that are equal answer alike for ever.
@@ -258,6 +318,32 @@ impl Watch {
     /// [`Lent::drop_oldest`].
     pub fn drop_oldest(&mut self) -> Result<Key, Refusal> {
         self.lent().drop_oldest()
+    }
+
+    /// [`Lent::turn`] with a list of its own: whose turn it is, and the next row number.
+    ///
+    /// ```
+    /// # use siting::Watch;
+    /// let mut watch = Watch::new(100)?;
+    /// for receiver in 0..70 {
+    ///     watch.claim(&[receiver; 32], None)?;
+    /// }
+    /// // A round of 100 rows, 30 a tick: three ticks, and one more for the remainder.
+    /// let (mut next, mut judged) = (0, 0);
+    /// for _ in 0..100_u32.div_ceil(30) {
+    ///     let (turn, after) = watch.turn(next, 30)?;
+    ///     judged += turn.len(); // here each of them is judged
+    ///     next = after;
+    /// }
+    /// // The last tick went round to row 0: twenty rows had their turn twice.
+    /// assert_eq!((judged, next), (70 + 20, 20));
+    /// # Ok::<(), siting::Refusal>(())
+    /// ```
+    pub fn turn(&self, next: u32, k: u32) -> Result<(Vec<Key>, u32), Refusal> {
+        let mut list = vec![[0; 32]; (k as usize).min(self.rows.len() / ROW_WORDS)];
+        let turned = tick((&self.rows, &self.cells, &self.ends), next, k, &mut list)?;
+        list.truncate(turned.count);
+        Ok((list, turned.next))
     }
 
     /// The receivers that are held, least recently used first: their rows as they lie in memory.
@@ -368,6 +454,23 @@ mod tests {
         assert_eq!(Watch::new(0), Err(Refusal::Sizes));
         assert_eq!(Watch::new(usize::MAX), Err(Refusal::Sizes));
         assert_eq!(watch(MOST_ROWS).ends, [NONE, NONE, 0]);
+    }
+
+    /// What a tick is refused with, in the questions' order, and that a refusal writes nothing.
+    #[test]
+    fn a_tick_is_refused_by_1_2_and_8() {
+        let mut watch = watch(3);
+        assert!(watch.claim(&[4; 32], None).is_ok());
+        for (k, room) in [(0, 3), (4, 4), (2, 1), (u32::MAX, 8)] {
+            let mut list = vec![[9; 32]; room];
+            assert_eq!(watch.lent().turn(0, k, &mut list), Err(Refusal::Turn));
+            assert_eq!(list, vec![[9; 32]; room]);
+        }
+        assert_eq!(watch.turn(u32::MAX, 3), Ok((vec![[4; 32]], 0)));
+        watch.rows[4] = 2;
+        assert_eq!(watch.turn(0, 0), Err(Refusal::NotInOrder));
+        watch.cells.pop();
+        assert_eq!(watch.turn(0, 0), Err(Refusal::Sizes));
     }
 
     /// Both halves of now and before are joined, older ones are not; a chain that does not end

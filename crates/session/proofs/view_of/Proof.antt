@@ -34,6 +34,9 @@ enum-told-7 c = search needs
 enum-told-8 : tie.Need-enum-told-8
 enum-told-8 c = search needs
 
+enum-told-9 : tie.Need-enum-told-9
+enum-told-9 c = search needs
+
 enum-known-line-3 : tie.Need-enum-known-line-3
 enum-known-line-3 c = search needs
 
@@ -53,31 +56,31 @@ returns-2 : tie.Need-returns-2
 returns-2 c = search (view-is, needs)
 
 returns-3 : tie.Need-returns-3
-returns-3 c = search needs
+returns-3 c = rw (c .enum-told .given .1)
 
 returns-4 : tie.Need-returns-4
-returns-4 c = search needs
+returns-4 c = rw (c .enum-told2 .given .1)
 
 returns-5 : tie.Need-returns-5
-returns-5 c = search needs
+returns-5 c = rw (c .enum-told3 .given .1)
 
 returns-6 : tie.Need-returns-6
-returns-6 c = search needs
+returns-6 c = rw (c .enum-told4 .given .1)
 
 returns-7 : tie.Need-returns-7
-returns-7 c = search needs
+returns-7 c = rw (c .enum-told5 .given .1)
 
 returns-8 : tie.Need-returns-8
-returns-8 c = search needs
+returns-8 c = rw (c .enum-told6 .given .1)
 
 returns-9 : tie.Need-returns-9
-returns-9 c = search needs
+returns-9 c = rw (c .enum-told7 .given .1)
 
 returns-10 : tie.Need-returns-10
-returns-10 c = search needs
+returns-10 c = rw (c .enum-told8 .given .1)
 
 returns-11 : tie.Need-returns-11
-returns-11 c = search (view-is, needs)
+returns-11 c = rw (c .enum-told9 .given .1)
 
 returns-12 : tie.Need-returns-12
 returns-12 c = search (view-is, needs)
@@ -87,6 +90,9 @@ returns-13 c = search (view-is, needs)
 
 returns-14 : tie.Need-returns-14
 returns-14 c = search (view-is, needs)
+
+returns-15 : tie.Need-returns-15
+returns-15 c = search (view-is, needs)
 
 pub view-of-spec : {M : Type 1} → statement M
 view-of-spec =
@@ -102,6 +108,7 @@ view-of-spec =
     enum-told-6
     enum-told-7
     enum-told-8
+    enum-told-9
     enum-known-line-3
     enum-known-line-4
     enum-known-line-5
@@ -119,4 +126,5 @@ view-of-spec =
     returns-11
     returns-12
     returns-13
-    returns-14)
+    returns-14
+    returns-15)

@@ -127,7 +127,7 @@ pub struct Relay {
     due_ms: Option<u64>,
     rounds: u64,
     calls: u64,
-    refused: [u64; 8],
+    refused: [u64; 9],
 }
 
 impl Relay {
@@ -141,7 +141,7 @@ impl Relay {
             due_ms: None,
             rounds: 0,
             calls: 0,
-            refused: [0; 8],
+            refused: [0; 9],
         })
     }
 

@@ -107,6 +107,15 @@ enum-told-33 c = search needs
 enum-told-34 : tie.Need-enum-told-34
 enum-told-34 c = search needs
 
+enum-told-35 : tie.Need-enum-told-35
+enum-told-35 c = search needs
+
+enum-told-36 : tie.Need-enum-told-36
+enum-told-36 c = search needs
+
+enum-told-37 : tie.Need-enum-told-37
+enum-told-37 c = search needs
+
 returns : tie.Need-returns
 unfolding wordAt partOf firstOf
 returns c = rw (c .enum-told .given .1)
@@ -243,6 +252,18 @@ returns-34 : tie.Need-returns-34
 unfolding wordAt partOf firstOf
 returns-34 c = rw (c .enum-told34 .given .1)
 
+returns-35 : tie.Need-returns-35
+unfolding wordAt partOf firstOf
+returns-35 c = rw (c .enum-told35 .given .1)
+
+returns-36 : tie.Need-returns-36
+unfolding wordAt partOf firstOf
+returns-36 c = rw (c .enum-told36 .given .1)
+
+returns-37 : tie.Need-returns-37
+unfolding wordAt partOf firstOf
+returns-37 c = rw (c .enum-told37 .given .1)
+
 pub name-at-spec : {M : Type 1} → statement M
 name-at-spec =
     tie.close
@@ -281,6 +302,9 @@ name-at-spec =
     enum-told-32
     enum-told-33
     enum-told-34
+    enum-told-35
+    enum-told-36
+    enum-told-37
     returns
     returns-2
     returns-3
@@ -314,4 +338,7 @@ name-at-spec =
     returns-31
     returns-32
     returns-33
-    returns-34)
+    returns-34
+    returns-35
+    returns-36
+    returns-37)

@@ -55,65 +55,71 @@ judging-line-requires c κs = search needs
 enum-told-9 : tie.Need-enum-told-9
 enum-told-9 c = search needs
 
-bare-line-requires-3 : tie.Need-bare-line-requires-3
-bare-line-requires-3 c κs = search needs
+turn-line-requires : tie.Need-turn-line-requires
+turn-line-requires c κs = search needs
 
 enum-told-10 : tie.Need-enum-told-10
 enum-told-10 c = search needs
 
-place-line-requires : tie.Need-place-line-requires
-place-line-requires c κs = search needs
+bare-line-requires-3 : tie.Need-bare-line-requires-3
+bare-line-requires-3 c κs = search needs
 
 enum-told-11 : tie.Need-enum-told-11
 enum-told-11 c = search needs
 
-same-line-requires : tie.Need-same-line-requires
-same-line-requires c κs = search needs
+place-line-requires : tie.Need-place-line-requires
+place-line-requires c κs = search needs
 
 enum-told-12 : tie.Need-enum-told-12
 enum-told-12 c = search needs
 
-horizon-line-requires : tie.Need-horizon-line-requires
-horizon-line-requires c κs = search needs
+same-line-requires : tie.Need-same-line-requires
+same-line-requires c κs = search needs
 
 enum-told-13 : tie.Need-enum-told-13
 enum-told-13 c = search needs
 
-bucket-line-requires : tie.Need-bucket-line-requires
-bucket-line-requires c κs = search needs
+horizon-line-requires : tie.Need-horizon-line-requires
+horizon-line-requires c κs = search needs
 
 enum-told-14 : tie.Need-enum-told-14
 enum-told-14 c = search needs
 
-bit-line-requires : tie.Need-bit-line-requires
-bit-line-requires c κs = search needs
+bucket-line-requires : tie.Need-bucket-line-requires
+bucket-line-requires c κs = search needs
 
 enum-told-15 : tie.Need-enum-told-15
 enum-told-15 c = search needs
 
-lend-line-requires : tie.Need-lend-line-requires
-lend-line-requires c κs = search needs
+bit-line-requires : tie.Need-bit-line-requires
+bit-line-requires c κs = search needs
 
 enum-told-16 : tie.Need-enum-told-16
 enum-told-16 c = search needs
 
-row-line-requires : tie.Need-row-line-requires
-row-line-requires c κs = search needs
+lend-line-requires : tie.Need-lend-line-requires
+lend-line-requires c κs = search needs
 
 enum-told-17 : tie.Need-enum-told-17
 enum-told-17 c = search needs
 
-cell-line-requires : tie.Need-cell-line-requires
-cell-line-requires c κs = search needs
+row-line-requires : tie.Need-row-line-requires
+row-line-requires c κs = search needs
 
 enum-told-18 : tie.Need-enum-told-18
 enum-told-18 c = search needs
 
-ends-line-requires : tie.Need-ends-line-requires
-ends-line-requires c κs = search needs
+cell-line-requires : tie.Need-cell-line-requires
+cell-line-requires c κs = search needs
 
 enum-told-19 : tie.Need-enum-told-19
 enum-told-19 c = search needs
+
+ends-line-requires : tie.Need-ends-line-requires
+ends-line-requires c κs = search needs
+
+enum-told-20 : tie.Need-enum-told-20
+enum-told-20 c = search needs
 
 say-requires : tie.Need-say-requires
 say-requires c κs = search needs
@@ -175,6 +181,9 @@ returns-18 c = search (kind-is, needs)
 returns-19 : tie.Need-returns-19
 returns-19 c = search (kind-is, needs)
 
+returns-20 : tie.Need-returns-20
+returns-20 c = search (kind-is, needs)
+
 pub line-of-spec : {M : Type 1} → statement M
 line-of-spec =
     tie.close
@@ -196,26 +205,28 @@ line-of-spec =
     enum-told-8
     judging-line-requires
     enum-told-9
-    bare-line-requires-3
+    turn-line-requires
     enum-told-10
-    place-line-requires
+    bare-line-requires-3
     enum-told-11
-    same-line-requires
+    place-line-requires
     enum-told-12
-    horizon-line-requires
+    same-line-requires
     enum-told-13
-    bucket-line-requires
+    horizon-line-requires
     enum-told-14
-    bit-line-requires
+    bucket-line-requires
     enum-told-15
-    lend-line-requires
+    bit-line-requires
     enum-told-16
-    row-line-requires
+    lend-line-requires
     enum-told-17
-    cell-line-requires
+    row-line-requires
     enum-told-18
-    ends-line-requires
+    cell-line-requires
     enum-told-19
+    ends-line-requires
+    enum-told-20
     say-requires
     returns
     returns-2
@@ -235,4 +246,5 @@ line-of-spec =
     returns-16
     returns-17
     returns-18
-    returns-19)
+    returns-19
+    returns-20)

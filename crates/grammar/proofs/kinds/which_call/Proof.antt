@@ -46,6 +46,12 @@ slice-aggregate-pick-7 c = search needs
 pick-requires-7 : tie.Need-pick-requires-7
 pick-requires-7 c κs = search needs
 
+slice-aggregate-pick-8 : tie.Need-slice-aggregate-pick-8
+slice-aggregate-pick-8 c = search needs
+
+pick-requires-8 : tie.Need-pick-requires-8
+pick-requires-8 c κs = search needs
+
 returns : tie.Need-returns
 returns c = search (which-call, needs)
 
@@ -67,4 +73,6 @@ which-call-spec =
     pick-requires-6
     slice-aggregate-pick-7
     pick-requires-7
+    slice-aggregate-pick-8
+    pick-requires-8
     returns)

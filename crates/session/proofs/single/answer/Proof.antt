@@ -67,8 +67,11 @@ enum-told-7 c = search needs
 enum-told-8 : tie.Need-enum-told-8
 enum-told-8 c = search needs
 
+enum-told-9 : tie.Need-enum-told-9
+enum-told-9 c = search needs
+
 returns : tie.Need-returns
-returns c = search needs
+returns c = rw (c .enum-told .given .1)
 
 returns-2 : tie.Need-returns-2
 returns-2 c = search (line-is, needs)
@@ -89,25 +92,28 @@ returns-7 : tie.Need-returns-7
 returns-7 c = search (bit-line, needs)
 
 returns-8 : tie.Need-returns-8
-returns-8 c = search needs
+returns-8 c = rw (c .enum-told2 .given .1)
 
 returns-9 : tie.Need-returns-9
-returns-9 c = search needs
+returns-9 c = rw (c .enum-told3 .given .1)
 
 returns-10 : tie.Need-returns-10
-returns-10 c = search needs
+returns-10 c = rw (c .enum-told4 .given .1)
 
 returns-11 : tie.Need-returns-11
-returns-11 c = search needs
+returns-11 c = rw (c .enum-told5 .given .1)
 
 returns-12 : tie.Need-returns-12
-returns-12 c = search needs
+returns-12 c = rw (c .enum-told6 .given .1)
 
 returns-13 : tie.Need-returns-13
-returns-13 c = search needs
+returns-13 c = rw (c .enum-told7 .given .1)
 
 returns-14 : tie.Need-returns-14
-returns-14 c = search needs
+returns-14 c = rw (c .enum-told8 .given .1)
+
+returns-15 : tie.Need-returns-15
+returns-15 c = rw (c .enum-told9 .given .1)
 
 pub answer-spec : {M : Type 1} → statement M
 answer-spec =
@@ -134,6 +140,7 @@ answer-spec =
     enum-told-6
     enum-told-7
     enum-told-8
+    enum-told-9
     returns
     returns-2
     returns-3
@@ -147,4 +154,5 @@ answer-spec =
     returns-11
     returns-12
     returns-13
-    returns-14)
+    returns-14
+    returns-15)
