@@ -1,5 +1,7 @@
-//! Finds the original's source and lays an unchanged copy of it, with our `tests.rs` beside it,
-//! into the build's own folder. Without the source the crate builds too, and says so.
+//! Finds the original's source and lays a copy of it, with our `tests.rs` beside it, into the
+//! build's own folder: unchanged but for the edits that document 02 asks of the Rust, each named
+//! below. Without the source the crate builds too, and says so; with a source that does not have
+//! the text of an edit once, it does not build.
 
 use std::path::{Path, PathBuf};
 use std::{env, fs};
@@ -9,6 +11,41 @@ const BELOW: &str = "crates/relay/src";
 
 /// The files that are taken over.
 const FILES: [&str; 2] = ["siting.rs", "bounded.rs"];
+
+/// An edit of the original: its text, once in the file, and what stands there instead.
+struct Edit {
+    name: &'static str,
+    file: &'static str,
+    old: &'static str,
+    new: &'static str,
+}
+
+/// The edits, by the items of document 02 that ask for them.
+const EDITS: [Edit; 1] = [Edit {
+    name: "Item 2: median and total from the third nearest place on",
+    file: "siting.rs",
+    old: "    heard.sort_by(|a, b| a.1.total_cmp(&b.1));\n",
+    // The list is in order of the nearest distances here, equal ones as they came: cells, then bins.
+    new: "    let skipped = 2.min(heard.len() - 1);\n    let heard = &mut heard[skipped..];\n    \
+          let positions: u32 = heard.iter().map(|(_, _, count)| *count).sum();\n    \
+          heard.sort_by(|a, b| a.1.total_cmp(&b.1));\n",
+}];
+
+/// A file's text with its edits made.
+fn edited(file: &str, text: String) -> String {
+    EDITS
+        .iter()
+        .filter(|edit| edit.file == file)
+        .fold(text, |text, edit| {
+            let found = text.matches(edit.old).count();
+            assert_eq!(
+                found, 1,
+                "oracle: {file} must have the text that an edit replaces once ({}): {:?}",
+                edit.name, edit.old
+            );
+            text.replace(edit.old, edit.new)
+        })
+}
 
 fn main() {
     println!("cargo::rerun-if-env-changed=SITING_RUST_SRC");
@@ -43,11 +80,11 @@ fn main() {
     }
 }
 
-/// Copies the source as it is, our files beside it, and names both as modules.
+/// Lays down the source with its edits made, our files beside it, and names both as modules.
 fn take(folder: &Path, out: &Path) {
     for file in FILES {
-        let text = fs::read(folder.join(file)).expect("the source can be read");
-        fs::write(out.join(file), text).expect("OUT_DIR can be written");
+        let text = fs::read_to_string(folder.join(file)).expect("the source can be read");
+        fs::write(out.join(file), edited(file, text)).expect("OUT_DIR can be written");
     }
     fs::copy("src/reach.rs", out.join("tests.rs")).expect("OUT_DIR can be written");
     fs::create_dir_all(out.join("tests")).expect("OUT_DIR can be written");

@@ -1,4 +1,4 @@
--- 01's proved sheet, P10, and its plausible error "Assuming NothingNear is far", as theorems about the definitions. In each row the
+-- 01's proved sheet, P10, and the case of its plausible error "Assuming NothingNear is far", as theorems about the definitions. In each row the
 -- even half alone is merged, at now_ms 0; few of its cells are occupied. Assumes nothing.
 use mathlib.Core.Path.{_≡_, refl, sym, ap, _∙_}
 use mathlib.Core.Bool.{Bool, true, false, _||_, cond}
@@ -27,7 +27,7 @@ use Rattle.around.specs.Marks.{inSector, sectorsIn, cellIn, binIn, outsideOf}
 use Rattle.near_field.specs.declared.Judgment.the-variants.{Unjudged, Wrong}
 use Rattle.near_field.specs.declared.Evidence.the-variants.{NothingNear}
 use Rattle.nothing_near.specs.Nothing.{cellPlace, binPlace, heard, placesHeard, places, nothingNear}
-use Rattle.nothing_near.proofs.Cases.{p10-off, p10-few, near-not-far as places-not-far}
+use Rattle.nothing_near.proofs.Cases.{p10-off, p10-few, nearest-skipped as places-skipped}
 use Rattle.nothing_near.specs.declared.Empty.the-variants.{Off, Heard}
 use Rattle.judge.specs.Judging.{ifOutside, judgeCells, judgeRow, judgeOf}
 use Rattle.judge.proofs.Few.{pass-one, pass-two, skip-place, skip-count, none-past, low-free}
@@ -192,7 +192,7 @@ pub p10-14 : (site : Site) (bits : ℕ) → judgeOf (At site) (Id 0) Nothing (ro
 unfolding judgeOf
 p10-14 site bits = refl
 
--- ---- Plausible errors: 15 aircraft, no altitudes, 255 positions in cell (e, n) = (1,1), one in (1,3), one in bin 0 give Wrong by 5
+-- ---- Plausible errors: 15 aircraft, no altitudes, 255 positions in cell (e, n) = (1,1), one in (1,3), one in bin 0 give, since Item 2, Wrong by 125
 -- (cells 820 and 860: column 20, rows 20 and 21)
 unfoldable pub rowNear : ℕ → List ℕ
 rowNear bits = set (set (set emptyRow 820 (heardWord 255 bits)) 860 (heardWord 1 bits)) 1600 (heardWord 1 bits)
@@ -273,9 +273,9 @@ module _ (bits : ℕ) (fit : bits < 2 ^ 16) where
   unfolding placesHeard
   places-near = rw (cells-heard, bin-heard farN one 0 far-here count-one (word 1 bits (omega arith) fit .low) far-free)
 
-  five : nothingNear gridN farN ≡ Off 5
-  five =
-      places-not-far gridN farN places-near (ap countOf near-820 ∙ count-most) (ap countOf near-860 ∙ count-one) (ap countOf far-here ∙ count-one)
+  off-125 : nothingNear gridN farN ≡ Off 125
+  off-125 =
+      places-skipped gridN farN places-near (ap countOf near-820 ∙ count-most) (ap countOf near-860 ∙ count-one) (ap countOf far-here ∙ count-one)
 
   -- (1,1) lies in sector 1, (1,3) in sector 0
   cell-sectors : (k : ℕ) → howMany (cellIn gridN k) 1600 ≡ cond (eqb 0 k) (cond (eqb 1 k) 1 0 + 1) (cond (eqb 1 k) 1 0)
@@ -291,8 +291,8 @@ module _ (bits : ℕ) (fit : bits < 2 ^ 16) where
       (table-same (λ (k : ℕ). some (cellIn gridN k) 1600 || some (binIn (farN .cells) k) 72) in-two 8
       (λ k l. rw (cell-sectors k, bin-sector farN one 0 far-here count-one (word 1 bits (omega arith) fit .low) far-free k))) two-sectors
 
-pub near-not-far : (site : Site) (bits : ℕ) → bits < 2 ^ 16 → judgeOf (At site) (Id 0) Nothing (rowNear bits) 0 15 ≡ Wrong 5 NothingNear
+pub nearest-skipped : (site : Site) (bits : ℕ) → bits < 2 ^ 16 → judgeOf (At site) (Id 0) Nothing (rowNear bits) 0 15 ≡ Wrong 125 NothingNear
 unfolding judgeOf judgeRow kept
-near-not-far site bits b =
+nearest-skipped site bits b =
     sym (to-off site (gridN bits b) (farN bits b) (outside-near bits b)
-    (none-past site (farN bits b) (bin-low (farN bits b) (one bits b) 0 (far-here bits b) (count-one bits b) (word 1 bits (omega arith) b .low) (far-free bits b))) 5 (five bits b))
+    (none-past site (farN bits b) (bin-low (farN bits b) (one bits b) 0 (far-here bits b) (count-one bits b) (word 1 bits (omega arith) b .low) (far-free bits b))) 125 (off-125 bits b))

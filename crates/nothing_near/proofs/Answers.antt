@@ -3,15 +3,12 @@ use mathlib.Core.Path.{_≡_, sym, ap, _∙_}
 use mathlib.Core.Bool.{Bool, true, false}
 use mathlib.Core.List.{List}
 use Prim.Native.Nat.{ℕ, _*_, _≤_, _<_, max}
-use native.Mathlib.Omega.{arith}
 use borrow.Author.Tests.{ltb-true, ltb-false, le-leb, lt-leb}
 use lib.Dec.{ltb}
 use Rattle.view.specs.declared.Far.{Far}
-use Rattle.plane.specs.Plane.{said}
+use Rattle.plane.specs.Plane.{steps, said}
 use Rattle.nothing_near.specs.declared.Empty.the-variants.{Off, Heard}
-use Rattle.nothing_near.specs.Nothing.{km, placesHeard, third, positionsIn, nothingNearIn, nothingNear}
-use Rattle.nothing_near.specs.Counted.{typicalSteps}
-use Rattle.nothing_near.proofs.Typical.{typical-steps}
+use Rattle.nothing_near.specs.Nothing.{km, placesHeard, third, fromThird, positionsIn, typicalIn, nothingNearIn, nothingNear}
 
 module _ (grid : List ℕ) (far : Far) (sum : ℕ) (is : sum ≡ positionsIn (placesHeard grid far)) where
   pub few-positions : sum < 60 → Heard ≡ nothingNear grid far
@@ -27,11 +24,11 @@ module _ (grid : List ℕ) (far : Far) (sum : ℕ) (is : sum ≡ positionsIn (pl
           lt-leb (km 60) (third (placesHeard grid far) .nearest) (ltb-true (third (placesHeard grid far) .nearest) (km 60) (sym third-is ∙ h)),
         )
 
-    pub is-off : near ≡ false → (k off : ℕ) → k ≡ typicalSteps grid (far .cells) sum → off ≡ 5 * max 1 k → Off off ≡ nothingNear grid far
+    pub is-off : near ≡ false → (k off : ℕ) → k ≡ steps (typicalIn (fromThird (placesHeard grid far))) 1 → off ≡ 5 * max 1 k → Off off ≡ nothingNear grid far
     unfolding nothingNear nothingNearIn said
     is-off h k off e o =
         rw (
           le-leb 60 (positionsIn (placesHeard grid far)) (rw is at enough),
           le-leb (km 60) (third (placesHeard grid far) .nearest) (ltb-false (third (placesHeard grid far) .nearest) (km 60) (sym third-is ∙ h)),
         )
-        (ap Off (o ∙ ap (λ (n : ℕ). 5 * max 1 n) (e ∙ ap (typicalSteps grid (far .cells)) is ∙ sym (typical-steps grid far (omega arith)))))
+        (ap Off (o ∙ ap (λ (n : ℕ). 5 * max 1 n) e))

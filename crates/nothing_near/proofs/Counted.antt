@@ -1,4 +1,4 @@
--- The counts and sums of specs/Counted are what the places heard have: their number, their positions, how many are under 60 km, and those passed at each step.
+-- The counts and sums of specs/Counted are what the places heard have: their number, their positions, and how many are under 60 km.
 -- Assumes nothing.
 use mathlib.Core.Path.{_≡_, refl, ap, _∙_}
 use mathlib.Core.Bool.{Bool, true, false, _&&_, cond}
@@ -38,7 +38,7 @@ module _ (grid : List ℕ) (far : Far) (p : Place → Bool) (w : Place → ℕ) 
       ∙ ap (λ (n : ℕ). sumOf q f 1600 + n) (heard-sum (binPlace (far .cells)) (far .cells) p w r g k 72)
 
 -- what is not occupied has no positions
-only-occupied : (c : ℕ) (t : Bool) → cond (ltb 0 c) (cond t c 0) 0 ≡ cond t c 0
+pub only-occupied : (c : ℕ) (t : Bool) → cond (ltb 0 c) (cond t c 0) 0 ≡ cond t c 0
 only-occupied zero true = refl
 only-occupied zero false = refl
 only-occupied (suc c) t = rw (lt-ltb 0 (suc c) (omega arith))
@@ -77,14 +77,3 @@ near-counted grid far =
     (λ j. ap (λ (t : Bool). cond (occupiedWord (getD (far .cells) j 0)) (cond t 1 0) 0) (far-bin j) ∙ none-of (occupiedWord (getD (far .cells) j 0)))
     ∙ ap (λ (n : ℕ). cellsWithin grid (km 60 - 1) + n) (pass-all (λ (i s : ℕ). cond false (s + 0) s) 0 72 (λ i l s. refl))
     ∙ add-zero (cellsWithin grid (km 60 - 1))
-
--- ---- in steps of 5 km
-pub passed-counted :
-    (grid : List ℕ) (far : Far) (k : ℕ) → k < 160
-    → sumWhere (within typicalOf (limit k)) positionsOf (placesHeard grid far)
-    ≡ sumOf (λ (i : ℕ). ltb (cellStep i) (suc k)) (λ (i : ℕ). countOf (getD grid i 0)) 1600 + sumOf (λ (j : ℕ). ltb (binStep j) (suc k)) (λ (j : ℕ). countOf (getD (far .cells) j 0)) 72
-unfolding cellPlace binPlace cellStep binStep
-passed-counted grid far k l =
-    both-sums grid far (within typicalOf (limit k)) positionsOf (λ i. ltb (cellStep i) (suc k)) (λ j. ltb (binStep j) (suc k)) (λ i. countOf (getD grid i 0)) (λ j. countOf (getD (far .cells) j 0))
-    (λ i. only-occupied (countOf (getD grid i 0)) (leb (fromSite i) (limit k)) ∙ ap (λ (t : Bool). cond t (countOf (getD grid i 0)) 0) (steps-within (fromSite i) k l))
-    (λ j. only-occupied (countOf (getD (far .cells) j 0)) (leb (km (getD (halfway edges) (j % 9) 0)) (limit k)) ∙ ap (λ (t : Bool). cond t (countOf (getD (far .cells) j 0)) 0) (steps-within (km (getD (halfway edges) (j % 9) 0)) k l))

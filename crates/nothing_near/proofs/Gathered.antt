@@ -10,13 +10,13 @@ use borrow.Author.Tests.{eqb-true, eqb-false, ltb-true, ltb-false, lt-ltb, le-lt
 use lib.Dec.{ltb, eqb}
 use lib.ListN.{length, getD, set, replicate, length-set, length-replicate}
 use lib.Seq.{getD-set-same, getD-set-other, set-getD}
-use Rattle.cells.proofs.Passes.{pass-next}
+use Rattle.cells.proofs.Passes.{pass-next, pass-skip}
 use Rattle.cells.specs.Cells.{countOf}
 use Rattle.cells.specs.Passes.{pass, sumOf}
 use Rattle.cells.proofs.Words.{count-small}
 use Rattle.plane.specs.Plane.{steps}
-use Rattle.nothing_near.specs.Counted.{noSteps, gather, below, cellStep, binStep, cellSteps}
-use Rattle.nothing_near.proofs.Sums.{sum-next, sum-le}
+use Rattle.nothing_near.specs.Counted.{positionsAmong, noSteps, gather, below, cellStep, binStep, cellSteps}
+use Rattle.nothing_near.proofs.Sums.{sum-next, sum-le, none-behind}
 use Rattle.nothing_near.proofs.Steps.{cell-below, bin-below}
 
 -- ---- what stands below k
@@ -75,7 +75,7 @@ module _ (at : List ℕ) (s v : ℕ) (l : s < length at) where
       let new : getD to k 0 ≡ getD at k 0 = getD-set-other at s k (getD at s 0 + v) 0 (λ q. eqb-false s k e (sym q)) in
       rw (other s k (eqb-false s k e)) (omega arith)
 
-  raised : (k : ℕ) → below to k ≡ below at k + cond (ltb s k) v 0
+  pub raised : (k : ℕ) → below to k ≡ below at k + cond (ltb s k) v 0
   raised zero = let e = below-zero to in let f = below-zero at in rw (le-ltb s 0 (omega arith)) (omega arith)
   raised (suc k) = next k (eqb s k) refl (raised k)
 
@@ -113,6 +113,13 @@ gather-same at p q = cc
 -- no positions change nothing
 pub gather-none : (at : List ℕ) (k c : ℕ) → c ≡ 0 → at ≡ set at k (getD at k 0 + c)
 gather-none at k c e = sym (ap (λ (n : ℕ). set at k (getD at k 0 + n)) e ∙ ap (set at k) (add-zero (getD at k 0)) ∙ set-getD at k 0)
+
+-- where all positions were seen the words behind change nothing
+pub all-gathered-by :
+    (step : ℕ → ℕ) (words start : List ℕ) (j n : ℕ) → j ≤ n → positionsAmong words n ≤ positionsAmong words j → pass (gather step words) start n ≡ pass (gather step words) start j
+unfolding gather
+all-gathered-by step words start j n le h =
+    pass-skip (gather step words) start j n le (λ i p q at. sym (gather-none at (step i) (countOf (getD words i 0)) (none-behind words j n h i p q)))
 
 -- ---- all cells gathered, and then all bins
 cell-small : (i : ℕ) → cellStep i < length noSteps

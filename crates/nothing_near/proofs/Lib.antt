@@ -5,8 +5,11 @@ pub mod Steps
 pub mod Gathered
 pub mod Counted
 pub mod Silent
+pub mod Two
+pub mod Kept
 pub mod Third
 pub mod Typical
+pub mod Left
 pub mod Answers
 pub mod Said
 pub mod Cases

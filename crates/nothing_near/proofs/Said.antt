@@ -9,7 +9,7 @@ use Rattle.view.specs.declared.Far.{Far}
 use Rattle.plane.specs.Plane.{said}
 use Rattle.plane.proofs.Squares.{said-step}
 use Rattle.nothing_near.specs.declared.Empty.the-variants.{Off, Heard}
-use Rattle.nothing_near.specs.Nothing.{km, placesHeard, third, positionsIn, typicalIn, nothingNearIn, nothingNear}
+use Rattle.nothing_near.specs.Nothing.{km, placesHeard, third, fromThird, positionsIn, typicalIn, nothingNearIn, nothingNear}
 
 said-of : (t : Bool) (n d : ℕ) → cond t (Off (said n 1)) Heard ≡ Off d → said n 1 ≡ d
 said-of true n d e = cc
@@ -19,5 +19,5 @@ pub off-step : (grid : List ℕ) (far : Far) (d : ℕ) → nothingNear grid far 
 unfolding nothingNear nothingNearIn
 off-step grid far d e =
     let l = placesHeard grid far in
-    let s = said-step (typicalIn l) 1 in
-    (s .0, sym (said-of (leb 60 (positionsIn l) && leb (km 60) (third l .nearest)) (typicalIn l) d e) ∙ s .1, s .2, s .3)
+    let s = said-step (typicalIn (fromThird l)) 1 in
+    (s .0, sym (said-of (leb 60 (positionsIn l) && leb (km 60) (third l .nearest)) (typicalIn (fromThird l)) d e) ∙ s .1, s .2, s .3)

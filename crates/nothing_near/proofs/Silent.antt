@@ -1,10 +1,8 @@
 -- Where the code need not look: rows that are 60 km off, and a grid with no positions. Assumes nothing.
 use mathlib.Core.Path.{_≡_, refl, sym, ap, _∙_}
 use mathlib.Core.Bool.{Bool, true, false, _&&_, cond}
-use mathlib.Core.Logic.{⊎-elim}
-use mathlib.Core.List.{List, []}
-use Prim.Native.Nat.{ℕ, zero, suc, _+_, _≤_, _<_}
-use native.Mathlib.Nat.{eq-or-lt-of-le}
+use mathlib.Core.List.{List, [], _∷_, _++_}
+use Prim.Native.Nat.{ℕ, suc, _+_, _≤_, _<_}
 use native.Mathlib.Omega.{arith}
 use borrow.Author.Tests.{lt-leb, le-ltb, ltb-false}
 use lib.Dec.{leb}
@@ -16,18 +14,10 @@ use Rattle.cells.proofs.Words.{zero-free}
 use Rattle.view.specs.View.{Unheard}
 use Rattle.plane.specs.Plane.{northOf, apart, square, fromSite}
 use Rattle.plane.proofs.Squares.{square-le}
-use Rattle.nothing_near.specs.Nothing.{km}
+use Rattle.nothing_near.specs.Nothing.{Place, km, cellPlace, heard}
 use Rattle.nothing_near.specs.Counted.{positionsAmong, nearCells, cellStep, noSteps, gather, cellSteps}
-use Rattle.nothing_near.proofs.Sums.{sum-next}
+use Rattle.nothing_near.proofs.Sums.{sum-next, sum-more}
 use Rattle.nothing_near.proofs.Gathered.{gather-none}
-
--- a sum of more is no less
-pub sum-more : (p : ℕ → Bool) (f : ℕ → ℕ) (m n : ℕ) → m ≤ n → sumOf p f m ≤ sumOf p f n
-sum-more p f m zero l = let e : m ≡ zero = omega arith in rw e (omega arith)
-sum-more p f m (suc n) l =
-    ⊎-elim (λ (e : m ≡ suc n). rw e (omega arith))
-    (λ (lt : m < suc n). omega (arith, sum-more p f m n (omega arith), sum-next p f n))
-    (eq-or-lt-of-le l)
 
 hidden : (o : Bool) → (o && false) ≡ false
 hidden true = refl
@@ -81,11 +71,17 @@ module _ (grid : List ℕ) where
       ∙ pass-all (λ (i s : ℕ). cond (isNear i) (s + 1) s) 0 1600
       (λ i l s. unchanged i s (ap (λ (t : Bool). t && leb (fromSite i) 575) (le-ltb 0 (countOf (getD grid i 0)) (let z = silent 1600 e i l in omega arith))))
 
+  pub silent-heard : Unheard grid → heard (cellPlace grid) grid 1600 ≡ []
+  unfolding heard
+  silent-heard u =
+      pass-all (λ (i : ℕ) (l : List Place). cond (occupiedWord (getD grid i 0)) (l ++ (cellPlace grid i ∷ [])) l) [] 1600
+      (λ i h l. ap (λ (t : Bool). cond t (l ++ (cellPlace grid i ∷ [])) l) (u i h))
+
   pub silent-steps : positionsAmong grid 1600 ≡ 0 → noSteps ≡ cellSteps grid
   unfolding cellSteps gather
   silent-steps e =
       sym (pass-all (gather cellStep grid) noSteps 1600 (λ i l at. sym (gather-none at (cellStep i) (countOf (getD grid i 0)) (silent 1600 e i l))))
 
 -- the empty list is such a grid
-pub no-cells : noSteps ≡ cellSteps []
-no-cells = silent-steps [] (silent-positions [] (λ i l. zero-free))
+pub unheard : Unheard []
+unheard i l = zero-free

@@ -2,7 +2,7 @@
 -- twice a running sum of weights first reaches a total is at most d exactly when twice the weights of all elements with a key of at most d reach it.
 -- So neither asks for the order: sums and counts do not depend on it. Assumes nothing.
 use mathlib.Core.Path.{_≡_, refl, sym, ap, _∙_}
-use mathlib.Core.Bool.{Bool, true, false, cond}
+use mathlib.Core.Bool.{Bool, true, false, cond, true≢false}
 use mathlib.Core.List.{List, [], _∷_, _++_}
 use Prim.Native.Nat.{ℕ, zero, suc, _+_, _*_, _≤_, _<_}
 use native.Mathlib.Omega.{arith}
@@ -57,6 +57,23 @@ module _ {A : Type 0} (p : A → Bool) (w : A → ℕ) where
   sum-ascending key [] = refl
   sum-ascending key (a ∷ l) = sum-insert key a (ascending key l) ∙ ap (λ (n : ℕ). cond (p a) (w a) 0 + n) (sum-ascending key l)
 
+-- what has p has q, so its weights are no more
+more : (t u : Bool) (n : ℕ) → (t ≡ true → u ≡ true) → cond t n 0 ≤ cond u n 0
+more true true n h = omega arith
+more true false n h = absurd (true≢false (sym (h refl)))
+more false u n h = omega arith
+
+module _ {A : Type 0} (p q : A → Bool) (w : A → ℕ) where
+  pub where-more : ((a : A) → p a ≡ true → q a ≡ true) → (l : List A) → sumWhere p w l ≤ sumWhere q w l
+  unfolding sumWhere
+  where-more h [] = omega arith
+  where-more h (a ∷ l) = omega (arith, more (p a) (q a) (w a) (h a), where-more h l)
+
+  pub where-same : ((a : A) → p a ≡ q a) → (l : List A) → sumWhere p w l ≡ sumWhere q w l
+  unfolding sumWhere
+  where-same h [] = refl
+  where-same h (a ∷ l) = ap (λ (t : Bool). cond t (w a) 0 + sumWhere p w l) (h a) ∙ ap (λ (n : ℕ). cond (q a) (w a) 0 + n) (where-same h l)
+
 pub total-where : {A : Type 0} (w : A → ℕ) (l : List A) → total w l ≡ sumWhere (λ a. true) w l
 unfolding total sumWhere
 total-where w [] = refl
@@ -69,7 +86,7 @@ length-where (a ∷ l) = let e = length-where l in omega arith
 
 module _ {A : Type 0} (key : A → ℕ) where
   -- ---- in order, from b on
-  unfoldable From : ℕ → List A → Type 0
+  unfoldable pub From : ℕ → List A → Type 0
   From b [] = Unit {0}
   From b (a ∷ l) = (b ≤ key a) × From (key a) l
 
@@ -89,7 +106,7 @@ module _ {A : Type 0} (key : A → ℕ) where
   from-insert b a [] h f = (h, tt)
   from-insert b a (e ∷ l) h f = from-put b a e l (leb (key a) (key e)) refl h f (λ g. from-insert (key e) a l g (f .1))
 
-  from-ascending : (l : List A) → From 0 (ascending key l)
+  pub from-ascending : (l : List A) → From 0 (ascending key l)
   unfolding ascending From
   from-ascending [] = tt
   from-ascending (a ∷ l) = from-insert 0 a (ascending key l) (omega arith) (from-ascending l)

@@ -1,12 +1,16 @@
 -- Sums over numbered things: bounds, and the places heard among the first n words. Assumes nothing.
 use mathlib.Core.Path.{_≡_, refl, sym, ap, _∙_}
 use mathlib.Core.Bool.{Bool, true, false, cond}
+use mathlib.Core.Logic.{⊎-elim}
 use mathlib.Core.List.{List, [], _∷_, _++_}
-use Prim.Native.Nat.{ℕ, zero, suc, _+_, _*_, _≤_}
+use Prim.Native.Nat.{ℕ, zero, suc, _+_, _*_, _≤_, _<_}
+use native.Mathlib.Nat.{eq-or-lt-of-le}
 use native.Mathlib.Omega.{arith}
+use borrow.Author.Tests.{ltb-false}
 use lib.ListN.{getD}
 use Rattle.cells.specs.Cells.{countOf, occupiedWord}
 use Rattle.cells.specs.Passes.{pass, sumOf}
+use Rattle.cells.proofs.Passes.{sum-step}
 use Rattle.cells.proofs.Words.{count-small}
 use Rattle.nothing_near.specs.Nothing.{Place, heard}
 use Rattle.nothing_near.specs.Counted.{positionsAmong}
@@ -31,10 +35,46 @@ pub sum-next : (p : ℕ → Bool) (f : ℕ → ℕ) (n : ℕ) → sumOf p f (suc
 unfolding pass
 sum-next p f n = added (p n) (sumOf p f n) (f n)
 
+-- a sum of more is no less
+pub sum-more : (p : ℕ → Bool) (f : ℕ → ℕ) (m n : ℕ) → m ≤ n → sumOf p f m ≤ sumOf p f n
+sum-more p f m zero l = let e : m ≡ zero = omega arith in rw e (omega arith)
+sum-more p f m (suc n) l =
+    ⊎-elim (λ (e : m ≡ suc n). rw e (omega arith))
+    (λ (lt : m < suc n). omega (arith, sum-more p f m n (omega arith), sum-next p f n))
+    (eq-or-lt-of-le l)
+
 pub positions-fit : (words : List ℕ) (n : ℕ) → positionsAmong words n ≤ 255 * n
 unfolding positionsAmong
 positions-fit words n = sum-le (λ (i : ℕ). true) (λ (i : ℕ). countOf (getD words i 0)) (λ i. count-small (getD words i 0)) n
 
+-- ---- a loop that goes on until all positions are seen
+module _ (words : List ℕ) (j n : ℕ) where
+  pub some-left : j ≤ n → positionsAmong words j < positionsAmong words n → j < n
+  some-left le h = ⊎-elim (λ (e : j ≡ n). let z = ap (positionsAmong words) e in absurd (omega arith)) (λ (lt : j < n). lt) (eq-or-lt-of-le le)
+
+  pub none-behind : positionsAmong words n ≤ positionsAmong words j → (i : ℕ) → j ≤ i → i < n → countOf (getD words i 0) ≡ 0
+  unfolding positionsAmong
+  none-behind h i p q =
+      omega (
+        arith,
+        sum-more (λ (i : ℕ). true) (λ (i : ℕ). countOf (getD words i 0)) j i p,
+        sum-next (λ (i : ℕ). true) (λ (i : ℕ). countOf (getD words i 0)) i,
+        sum-more (λ (i : ℕ). true) (λ (i : ℕ). countOf (getD words i 0)) (suc i) n q,
+      )
+
+module _ (words : List ℕ) where
+  pub none-seen : 0 ≡ positionsAmong words 0
+  unfolding positionsAmong pass
+  none-seen = refl
+
+  pub seen-one : (seen c i : ℕ) → seen ≡ positionsAmong words i → c ≡ countOf (getD words i 0) → seen + c ≡ positionsAmong words (i + 1)
+  unfolding positionsAmong
+  seen-one seen c i e h = sum-step (λ (i : ℕ). true) (λ (i : ℕ). countOf (getD words i 0)) seen c i e h
+
+  pub seen-none : (seen i : ℕ) → seen ≡ positionsAmong words i → occupiedWord (getD words i 0) ≡ false → seen ≡ positionsAmong words (i + 1)
+  seen-none seen i e h = omega (arith, seen-one seen (countOf (getD words i 0)) i e refl, ltb-false 0 (countOf (getD words i 0)) h)
+
+-- ---- the places heard
 module _ (place : ℕ → Place) (words : List ℕ) (p : Place → Bool) (w : Place → ℕ) (q : ℕ → Bool) (f : ℕ → ℕ)
     (same : (i : ℕ) → cond (occupiedWord (getD words i 0)) (cond (p (place i)) (w (place i)) 0) 0 ≡ cond (q i) (f i) 0) where
   grown : (o : Bool) (i : ℕ) (l : List Place)

@@ -10,26 +10,15 @@ use lib.Dec.{leb, ltb}
 use lib.ListN.{getD}
 use Rattle.cells.specs.Passes.{first}
 use Rattle.cells.proofs.Passes.{first-unique}
-use Rattle.view.specs.declared.Far.{Far}
 use Rattle.plane.specs.Plane.{steps}
-use Rattle.nothing_near.specs.Sorted.{total}
-use Rattle.nothing_near.specs.Nothing.{typicalOf, positionsOf, km, placesHeard, positionsIn, typicalIn}
-use Rattle.nothing_near.specs.Counted.{allSteps, below, reachedAt, typicalSteps}
-use Rattle.nothing_near.proofs.Sorted.{reaching-within}
-use Rattle.nothing_near.proofs.Gathered.{below-suc, bins-below, bins-fit}
-use Rattle.nothing_near.proofs.Counted.{passed-counted}
+use Rattle.nothing_near.specs.Nothing.{Place, typicalOf, positionsOf, positionsIn, typicalIn}
+use Rattle.nothing_near.specs.Counted.{below, reachedAt, stepOf}
+use Rattle.nothing_near.proofs.Sorted.{within, reaching-within, where-same}
+use Rattle.nothing_near.proofs.Gathered.{below-suc}
+use Rattle.nothing_near.proofs.Kept.{Gathers}
 use Rattle.nothing_near.proofs.Steps.{limit, steps-within, step-small}
 
 -- ---- the code's search over the steps
-module _ (grid bins at : List ℕ) (is : at ≡ allSteps grid bins) where
-  pub steps-fit : (k : ℕ) → below at k ≤ 426360
-  unfolding allSteps
-  steps-fit k = rw is (bins-fit grid bins 72 k)
-
-  pub all-found : (sum k : ℕ) → k ≡ first (reachedAt at sum) 160 → k ≡ typicalSteps grid bins sum
-  unfolding typicalSteps
-  all-found sum k e = e ∙ ap (λ (t : List ℕ). first (reachedAt t sum) 160) is
-
 pub found-steps : (at : List ℕ) (sum k : ℕ) → k ≤ 160 → ((j : ℕ) → j < k → reachedAt at sum j ≡ false) → (k < 160 → reachedAt at sum k ≡ true) → k ≡ first (reachedAt at sum) 160
 found-steps at sum k l before here = sym (first-unique (reachedAt at sum) 160 k l before here)
 
@@ -42,23 +31,21 @@ unfolding reachedAt
 reached-not at sum passed k e h = lt-leb sum (2 * below at (suc k)) (omega (arith, below-suc at k))
 
 -- ---- what the search finds is the typical distance in steps
--- at most k steps is where twice the positions at up to k steps reach the total
-typical-reached :
-    (grid : List ℕ) (far : Far) → 0 < positionsIn (placesHeard grid far) → (k : ℕ) → k < 160
-    → ltb (steps (typicalIn (placesHeard grid far)) 1) (suc k) ≡ reachedAt (allSteps grid (far .cells)) (positionsIn (placesHeard grid far)) k
-unfolding typicalIn positionsIn reachedAt allSteps
-typical-reached grid far h k l =
-    sym (steps-within (typicalIn (placesHeard grid far)) k l)
-    ∙ reaching-within typicalOf positionsOf (limit k) (placesHeard grid far) h
-    ∙ ap (λ (n : ℕ). leb (positionsIn (placesHeard grid far)) (2 * n)) (passed-counted grid far k l ∙ sym (bins-below grid (far .cells) 72 (suc k)))
+module _ (at : List ℕ) (l : List Place) (gathers : Gathers at l) (some : 0 < positionsIn l) where
+  -- at most k steps is where twice the positions at up to k steps reach the total
+  typical-reached : (k : ℕ) → k < 160 → ltb (steps (typicalIn l) 1) (suc k) ≡ reachedAt at (positionsIn l) k
+  unfolding typicalIn positionsIn reachedAt stepOf
+  typical-reached k h =
+      sym (steps-within (typicalIn l) k h)
+      ∙ reaching-within typicalOf positionsOf (limit k) l some
+      ∙ ap (λ (n : ℕ). leb (positionsIn l) (2 * n))
+      (where-same (within typicalOf (limit k)) (λ (p : Place). ltb (stepOf p) (suc k)) positionsOf (λ p. steps-within (typicalOf p) k h) l ∙ sym (gathers (suc k)))
 
-pub typical-steps : (grid : List ℕ) (far : Far) → 0 < positionsIn (placesHeard grid far)
-    → steps (typicalIn (placesHeard grid far)) 1 ≡ typicalSteps grid (far .cells) (positionsIn (placesHeard grid far))
-unfolding typicalSteps
-typical-steps grid far h =
-    let t = steps (typicalIn (placesHeard grid far)) 1 in
-    let small : t ≤ 160 = omega (arith, step-small (typicalIn (placesHeard grid far))) in
-    sym
-    (first-unique (reachedAt (allSteps grid (far .cells)) (positionsIn (placesHeard grid far))) 160 t small
-    (λ j l. sym (typical-reached grid far h j (omega arith)) ∙ le-ltb t (suc j) (omega arith))
-    (λ l. sym (typical-reached grid far h t l) ∙ lt-ltb t (suc t) (omega arith)))
+  pub typical-steps : steps (typicalIn l) 1 ≡ first (reachedAt at (positionsIn l)) 160
+  typical-steps =
+      let t = steps (typicalIn l) 1 in
+      let small : t ≤ 160 = omega (arith, step-small (typicalIn l)) in
+      sym
+      (first-unique (reachedAt at (positionsIn l)) 160 t small
+      (λ j h. sym (typical-reached j (omega arith)) ∙ le-ltb t (suc j) (omega arith))
+      (λ h. sym (typical-reached t h) ∙ lt-ltb t (suc t) (omega arith)))

@@ -1,14 +1,20 @@
--- What the code computes: counts and sums over the words, with no list of places and no order. proofs/Counted has each equal to its definition in `Nothing`. Definitions only.
-use Prim.Native.Nat.{ℕ, suc, _+_, _-_, _*_, _%_}
-use mathlib.Core.Bool.{Bool, true}
+-- What the code computes: counts and sums over the words, and the two nearest places, with no list of places and none sorted. proofs/Counted, Two and Kept
+-- have each equal to its definition in `Nothing`. Definitions only.
+use Prim.Native.Nat.{ℕ, suc, _+_, _-_, _*_, _%_, _<_}
+use mathlib.Core.Path.{_≡_}
+use mathlib.Core.Bool.{Bool, true, cond}
 use mathlib.Core.List.{List}
-use lib.Dec.{leb}
+use lib.Dec.{leb, ltb}
 use lib.ListN.{getD, set, replicate}
 use Rattle.cells.specs.Cells.{countOf, occupiedWord}
-use Rattle.cells.specs.Passes.{pass, sumOf, howMany, first}
+use Rattle.cells.specs.Passes.{pass, sumOf, howMany}
 use Rattle.plane.specs.Plane.{fromSite, steps}
 use Rattle.near_field.specs.Near.{cellsWithin}
-use Rattle.nothing_near.specs.Nothing.{km, edges, halfway}
+use Rattle.view.specs.declared.Far.{Far}
+use Rattle.nothing_near.specs.declared.Spot.{Spot}
+use Rattle.nothing_near.specs.declared.Nearest.{Nearest}
+use Rattle.nothing_near.specs.Sorted.{ascending}
+use Rattle.nothing_near.specs.Nothing.{Place, nearestOf, typicalOf, positionsOf, km, edges, halfway, placesHeard, positionsIn}
 
 -- the positions of the first n words, and how many of them are occupied
 unfoldable pub positionsAmong : List ℕ → ℕ → ℕ
@@ -51,5 +57,43 @@ below at k = sumOf (λ (j : ℕ). true) (λ (j : ℕ). getD at j 0) k
 unfoldable pub reachedAt : List ℕ → ℕ → ℕ → Bool
 reachedAt at total k = leb total (2 * below at (suc k))
 
-unfoldable pub typicalSteps : List ℕ → List ℕ → ℕ → ℕ
-typicalSteps grid bins total = first (reachedAt (allSteps grid bins) total) 160
+-- ---- the two nearest
+-- a place as the code keeps it, and none: farther than any, with no positions
+unfoldable pub stepOf : Place → ℕ
+stepOf p = steps (typicalOf p) 1
+
+unfoldable pub spotOf : Place → Spot
+spotOf p = record { nearest = nearestOf p; step = stepOf p; positions = positionsOf p }
+
+unfoldable pub noPlace : Place
+noPlace = record { nearest = 1048576; typical = 0; positions = 0 }
+
+unfoldable pub cellSpot : ℕ → ℕ → Spot
+cellSpot w i = record { nearest = fromSite i; step = cellStep i; positions = countOf w }
+
+unfoldable pub binSpot : ℕ → ℕ → Spot
+binSpot w j = record { nearest = km (getD edges (j % 9) 0); step = binStep j; positions = countOf w }
+
+-- the first two of a list, and of some places in order of their nearest distances
+unfoldable pub firstTwo : List Place → Nearest
+firstTwo l = record { first = spotOf (getD l 0 noPlace); second = spotOf (getD l 1 noPlace) }
+
+unfoldable pub twoNearest : List Place → Nearest
+twoNearest l = firstTwo (ascending nearestOf l)
+
+-- one more place, nearer than the second: before the first or behind it
+unfoldable pub put : Nearest → Spot → Nearest
+put near s = cond (ltb (s .nearest) (near .first .nearest)) (record { first = s; second = near .first }) (record { first = near .first; second = s })
+
+-- one more place, behind its equals
+unfoldable pub nearer : Nearest → Spot → Nearest
+nearer near s = cond (ltb (s .nearest) (near .second .nearest)) (put near s) near
+
+-- the occupied ones of the first n words, one by one
+unfoldable pub nearestAmong : (ℕ → ℕ → Spot) → List ℕ → Nearest → ℕ → Nearest
+nearestAmong spot words near n = pass (λ (i : ℕ) (near : Nearest). cond (occupiedWord (getD words i 0)) (nearer near (spot (getD words i 0) i)) near) near n
+
+-- what the code keeps of the places heard: all positions by their steps, their sum, and the two nearest
+abbrev pub Kept : List ℕ → ℕ → Nearest → List ℕ → Far → Type 0
+Kept at sum near grid far =
+    (at ≡ allSteps grid (far .cells)) × (sum ≡ positionsIn (placesHeard grid far)) × (near ≡ twoNearest (placesHeard grid far)) × (0 < sum)

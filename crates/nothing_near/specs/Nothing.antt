@@ -1,10 +1,10 @@
--- Nothing near (01, "A judging", 3), over the list of places heard. Definitions only.
+-- Nothing near (01, "A judging", 3; 02, Item 2), over the list of places heard. Definitions only.
 -- Distances are squares of half cells of 2.5 km (01: Grid distances and the mean compare by whole squares).
 use Prim.Native.Nat.{ℕ, _+_, _-_, _*_, _/_, _%_, min}
 use mathlib.Core.Bool.{_&&_, cond}
 use mathlib.Core.List.{List, [], _∷_, _++_}
 use lib.Dec.{leb}
-use lib.ListN.{length, getD}
+use lib.ListN.{length, getD, drop}
 use Rattle.angles.specs.Sphere as bands
 use Rattle.cells.specs.Cells.{countOf, occupiedWord}
 use Rattle.cells.specs.Passes.{pass}
@@ -80,9 +80,15 @@ positionsIn l = total positionsOf l
 unfoldable pub typicalIn : List Place → ℕ
 typicalIn l = firstReaching typicalOf positionsOf (positionsIn l) 0 (ascending typicalOf l)
 
--- 01: Nothing near: 60 or more positions, and the third nearest place at least 60 km
+-- Item 2: the places from the third nearest on, or the farthest alone of fewer. Equal nearest distances keep cell order, bins by number after cells:
+-- the order of `placesHeard`, which `ascending` keeps
+unfoldable pub fromThird : List Place → List Place
+fromThird l = drop (thirdOrLast l) (ascending nearestOf l)
+
+-- 01: Nothing near: 60 or more positions, and the third nearest place at least 60 km.
+-- Item 2: median and total are taken over the places from the third nearest on; the test for 60 positions still counts them all
 unfoldable pub nothingNearIn : List Place → Empty
-nothingNearIn l = cond (leb 60 (positionsIn l) && leb (km 60) (third l .nearest)) (Off (said (typicalIn l) 1)) Heard
+nothingNearIn l = cond (leb 60 (positionsIn l) && leb (km 60) (third l .nearest)) (Off (said (typicalIn (fromThird l)) 1)) Heard
 
 unfoldable pub nothingNear : List ℕ → Far → Empty
 nothingNear grid far = nothingNearIn (placesHeard grid far)

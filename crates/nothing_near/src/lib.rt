@@ -1,15 +1,16 @@
-// Nothing heard near the site: how far the typical position is. What is written here asks for no order of the places: it
-// counts those under 60 km, and gathers all positions by the 5 km step that their distance is said in.
+// Nothing heard near the site: how far the typical position is, the two nearest places aside. Nothing is sorted here: the places under
+// 60 km are counted, all positions are gathered by the 5 km step that their distance is said in, and those of the two nearest taken out.
 ghost use mathlib.Core.Path.{_≡_};
-ghost use mathlib.Core.List.{List};
-ghost use Prim.Native.Nat.{ℕ, _+_, _*_, _≤_, _<_, min, max};
+ghost use mathlib.Core.List.{List, []};
+ghost use Prim.Native.Nat.{ℕ, _+_, _-_, _*_, _≤_, _<_, min, max};
 ghost use lib.Dec.{ltb};
 ghost use lib.ListN.{length, getD, set};
 ghost use Rattle.cells.specs.Cells.{countOf};
 ghost use Rattle.cells.specs.Passes.{first};
+ghost use Rattle.plane.specs.Plane.{steps};
 ghost use Rattle.view.specs.View.{Unheard};
-ghost use Rattle.nothing_near.specs.Nothing.{km, placesHeard, places, third, positionsIn, nothingNear};
-ghost use Rattle.nothing_near.specs.Counted.{positionsAmong, occupiedAmong, nearCells, cellStep, binStep, cellSteps, allSteps, reachedAt};
+ghost use Rattle.nothing_near.specs.Nothing.{km, placesHeard, places, third, fromThird, positionsIn, typicalIn, nothingNear};
+ghost use Rattle.nothing_near.specs.Counted.{positionsAmong, occupiedAmong, nearCells, cellStep, binStep, cellSteps, allSteps, below, reachedAt, cellSpot, binSpot, twoNearest, put, nearer, nearestAmong, Kept};
 use near_field::near;
 use view::Far;
 
@@ -17,6 +18,19 @@ use view::Far;
 pub enum Empty {
     Off(u32),
     Heard,
+}
+
+// A place heard: the square of its nearest distance, half cells, the steps of its typical one, and its positions.
+struct Spot {
+    nearest: u64,
+    step: usize,
+    positions: u32,
+}
+
+// The two nearest of some places, in their order.
+struct Nearest {
+    first: Spot,
+    second: Spot,
 }
 
 // The positions of some words.
@@ -130,28 +144,142 @@ fn cell_steps(grid: &[u32; 1600]) -> [u32; 161]
     at
 }
 
-// The positions of the bins with those of the cells, by their steps.
-fn with_bins(cells: [u32; 161], bins: [u32; 72]) -> [u32; 161]
-    requires { ⌜ ((grid : List ℕ) × (cells ≡ cellSteps grid)) ⌝ }
+// The positions of the bins, which are so many, with those of the cells, by their steps: once all are seen no other bin is occupied.
+fn with_bins(cells: [u32; 161], bins: [u32; 72], positions: u32) -> [u32; 161]
+    requires { ⌜ ((grid : List ℕ) × (cells ≡ cellSteps grid)) × (positions ≡ positionsAmong bins 72) ⌝ }
     ensures { λ r. ⌜ ((grid : List ℕ) → cells ≡ cellSteps grid → r ≡ allSteps grid bins) ⌝ }
 {
     let mut at = cells;
+    let mut seen: u32 = 0;
     let mut j = 0;
-    while j < 72 {
+    while seen < positions {
         let bin = j;
         let w = bins[bin];
         j += 1;
         if cells::occupied(w) {
             let k = bin_step(bin);
-            at[k] = at[k] + cells::count_of(w);
+            let n = cells::count_of(w);
+            at[k] = at[k] + n;
+            seen += n;
         }
     }
     at
 }
 
+// None is farther than any place, and has no positions.
+fn none_nearest() -> Nearest
+    ensures { λ r. ⌜ r ≡ twoNearest [] ⌝ }
+{
+    let none = Spot {
+        nearest: 1048576,
+        step: 0,
+        positions: 0,
+    };
+    Nearest {
+        first: none,
+        second: none,
+    }
+}
+
+// A place that is nearer than the second, put before the first or behind it.
+fn put(near: Nearest, spot: Spot) -> Nearest
+    ensures { λ r. ⌜ r ≡ put near spot ⌝ }
+{
+    let first = near.first;
+    if spot.nearest < first.nearest {
+        return Nearest {
+            first: spot,
+            second: first,
+        };
+    }
+    Nearest {
+        first: first,
+        second: spot,
+    }
+}
+
+// The two nearest with one more cell, behind its equals.
+fn with_cell(near: Nearest, w: u32, i: usize) -> Nearest
+    requires { ⌜ i < 1600 ⌝ }
+    ensures { λ r. ⌜ r ≡ nearer near (cellSpot w i) ⌝ }
+{
+    let d = plane::distance(plane::east_of(i), plane::north_of(i), 40, 40);
+    let second = near.second;
+    if d < second.nearest {
+        return put(
+            near,
+            Spot {
+                nearest: d,
+                step: cell_step(i),
+                positions: cells::count_of(w),
+            },
+        );
+    }
+    near
+}
+
+// The squares of the nine bands' edges, half cells.
+const EDGES: [u64; 9] = [1600, 3600, 6400, 10000, 14400, 19600, 25600, 40000, 78400];
+
+// The same with one more bin.
+fn with_bin(near: Nearest, w: u32, j: usize) -> Nearest
+    ensures { λ r. ⌜ r ≡ nearer near (binSpot w j) ⌝ }
+{
+    let d = EDGES[j % 9];
+    let second = near.second;
+    if d < second.nearest {
+        return put(
+            near,
+            Spot {
+                nearest: d,
+                step: bin_step(j),
+                positions: cells::count_of(w),
+            },
+        );
+    }
+    near
+}
+
+// The two nearest cells.
+fn nearest_cells(grid: &[u32; 1600]) -> Nearest
+    ensures { λ r. ⌜ r ≡ nearestAmong cellSpot (now (grid .entry)) (twoNearest []) 1600 ⌝ }
+{
+    let mut near = none_nearest();
+    let mut i = 0;
+    while i < 1600 {
+        let cell = i;
+        let w = grid[cell];
+        i += 1;
+        if cells::occupied(w) {
+            near = with_cell(near, w, cell);
+        }
+    }
+    near
+}
+
+// The two nearest of some places and the bins, whose positions are so many.
+fn nearest_bins(places: Nearest, bins: [u32; 72], positions: u32) -> Nearest
+    requires { ⌜ positions ≡ positionsAmong bins 72 ⌝ }
+    ensures { λ r. ⌜ r ≡ nearestAmong binSpot bins places 72 ⌝ }
+{
+    let mut near = places;
+    let mut seen: u32 = 0;
+    let mut j = 0;
+    while seen < positions {
+        let bin = j;
+        let w = bins[bin];
+        j += 1;
+        if cells::occupied(w) {
+            near = with_bin(near, w, bin);
+            seen += cells::count_of(w);
+        }
+    }
+    near
+}
+
 // The steps of the typical distance: the least at which twice the positions so far reach the total.
 fn typical_steps(at: [u32; 161], total: u32) -> u32
-    requires { ⌜ ((grid : List ℕ) × (bins : List ℕ) × (at ≡ allSteps grid bins)) ⌝ }
+    requires { ⌜ ((k : ℕ) → below at k ≤ 426360) ⌝ }
     ensures { λ r. ⌜ (r ≡ first (reachedAt at total) 160) × (r ≤ 160) ⌝ }
 {
     let mut passed: u32 = 0;
@@ -164,6 +292,36 @@ fn typical_steps(at: [u32; 161], total: u32) -> u32
         k += 1;
     }
     160
+}
+
+// One place's positions taken out.
+fn without(steps: [u32; 161], spot: Spot) -> [u32; 161]
+    requires { ⌜ (spot .step < 161) × (spot .positions ≤ getD steps (spot .step) 0) ⌝ }
+    ensures { λ r. ⌜ r ≡ set steps (spot .step) (getD steps (spot .step) 0 - spot .positions) ⌝ }
+{
+    let mut at = steps;
+    let k = spot.step;
+    at[k] = at[k] - spot.positions;
+    at
+}
+
+// The steps of the typical distance from the third nearest place on: the nearest is left out unless it has all positions, and
+// then the next unless it has all that are left.
+fn steps_from_third(at: [u32; 161], total: u32, near: Nearest) -> u32
+    requires { ⌜ ((grid : List ℕ) × (far : Far) × Kept at total near grid far) ⌝ }
+    ensures { λ r. ⌜ ((grid : List ℕ) (far : Far) → Kept at total near grid far → r ≡ steps (typicalIn (fromThird (placesHeard grid far))) 1) × (r ≤ 160) ⌝ }
+{
+    let first = near.first;
+    if total <= first.positions {
+        return typical_steps(at, total);
+    }
+    let later = without(at, first);
+    let left = total - first.positions;
+    let second = near.second;
+    if left <= second.positions {
+        return typical_steps(later, left);
+    }
+    typical_steps(without(later, second), left - second.positions)
 }
 
 // A number of steps, km: at least one step.
@@ -179,14 +337,17 @@ pub fn nothing_near(grid: &[u32; 1600], far: Far) -> Empty
     ensures { λ r. ⌜ r ≡ nothingNear (now (grid .entry)) far ⌝ }
 {
     let bins = far.cells;
-    let total = positions_among(grid) + positions_among(&bins);
+    let inside = positions_among(grid);
+    let past = positions_among(&bins);
+    let total = inside + past;
     if total < 60 {
         return Empty::Heard;
     }
     if third_is_near(grid, far) {
         return Empty::Heard;
     }
-    let k = typical_steps(with_bins(cell_steps(grid), bins), total);
+    let near = nearest_bins(nearest_cells(grid), bins, past);
+    let k = steps_from_third(with_bins(cell_steps(grid), bins, past), total, near);
     Empty::Off(steps_km(k))
 }
 
@@ -197,7 +358,8 @@ pub fn nothing_near_far(far: Far) -> Empty
     let bins = far.cells;
     let total = positions_among(&bins);
     if 60 <= total {
-        let k = typical_steps(with_bins([0u32; 161], bins), total);
+        let near = nearest_bins(none_nearest(), bins, total);
+        let k = steps_from_third(with_bins([0u32; 161], bins, total), total, near);
         return Empty::Off(steps_km(k));
     }
     Empty::Heard

@@ -109,9 +109,10 @@ p10-59 = cases.p10-59
 pub p10-14 : (site : Site) (bits : ℕ) → judgeOf (At site) (Id 0) Nothing (rowP10 60 bits) 0 14 ≡ Unjudged
 p10-14 = cases.p10-14
 
--- ---- 01, 'Plausible errors': '15 aircraft, no altitudes, 255 positions in cell (e, n) = (1,1), one in (1,3), one in bin 0 give Wrong by 5.'
-pub near-not-far : (site : Site) (bits : ℕ) → bits < 2 ^ 16 → judgeOf (At site) (Id 0) Nothing (rowNear bits) 0 15 ≡ Wrong 5 NothingNear
-near-not-far = cases.near-not-far
+-- ---- 01, 'Plausible errors': '15 aircraft, no altitudes, 255 positions in cell (e, n) = (1,1), one in (1,3), one in bin 0'; 02, Item 2: 'The case in 01 under
+-- plausible errors then gives 125.' The two cells are skipped.
+pub nearest-skipped : (site : Site) (bits : ℕ) → bits < 2 ^ 16 → judgeOf (At site) (Id 0) Nothing (rowNear bits) 0 15 ≡ Wrong 125 NothingNear
+nearest-skipped = cases.nearest-skipped
 
 -- ---- Not of 01's sheet: at exactly 45 degrees sine and cosine have each their own series, and differ.
 pub sine-45 : sine (pos (deg 45)) ≡ pos 759250124

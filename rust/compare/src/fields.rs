@@ -12,7 +12,7 @@ pub type Field = Vec<u32>;
 pub type Maker = fn(&mut Rng) -> Field;
 
 /// The ways, with the names that are printed.
-pub const WAYS: [(&str, Maker); 16] = [
+pub const WAYS: [(&str, Maker); 20] = [
     ("noise", noise),
     ("any words", any_words),
     ("bins all round, past the horizon", horizon_round),
@@ -20,6 +20,10 @@ pub const WAYS: [(&str, Maker); 16] = [
     ("limits of the horizon", horizon_limits),
     ("nothing near", one_side),
     ("limits of nothing near", sixty),
+    ("equally near places", equals),
+    ("one place", one),
+    ("two places", two),
+    ("a cell and a bin before the others", cell_and_bin),
     ("few places", few),
     ("sectors around the site", ring),
     ("near on one side, far all round", inside),
@@ -231,6 +235,99 @@ fn sixty(rng: &mut Rng) -> Field {
         if marks[sector(at)] && square(at, (0, 0)) < 576 {
             field[at] = packed(1, 255, 1);
         }
+    }
+    field
+}
+
+/// A place with few or many positions, no altitude.
+fn heavy(rng: &mut Rng) -> u32 {
+    packed(rng.pick(&[1, 2, 40, 90, 255]), 255, bits(rng))
+}
+
+/// About two equally near places behind one that is nearer, farther ones behind them, on one side:
+/// which of the equals is left out of the typical distance decides it as often as not.
+fn equals(rng: &mut Rng) -> Field {
+    let (mut field, marks) = (nothing(), any_side(rng, 4));
+    let bins = rng.one_in(2);
+    // As far as this cell, or in this band; at least 60 km.
+    let band = rng.below(6);
+    let cell = rng.below(GRID);
+    let far = square(cell, (0, 0)).max(576);
+    let distance = |at: usize| {
+        if at < GRID {
+            square(at, (0, 0))
+        } else {
+            far + 1
+        }
+    };
+    let is_equal = |at: usize| match (bins, at < GRID) {
+        (false, true) => distance(at) == far,
+        (true, false) => (at - GRID) % 9 == band,
+        _ => false,
+    };
+    let is_farther = |at: usize| match (bins, at < GRID) {
+        (false, _) => distance(at) > far,
+        (true, true) => false,
+        (true, false) => (at - GRID) % 9 > band,
+    };
+    let part = rng.pick(&[6, 12, 16]);
+    fill(rng, &mut field, part, heavy, |at| {
+        marks[sector(at)] && is_equal(at)
+    });
+    fill(rng, &mut field, 1, heavy, |at| {
+        marks[sector(at)] && is_farther(at)
+    });
+    // The nearer one: a cell, for bins now and then a bin or none.
+    let nearer = if bins && rng.one_in(2) {
+        GRID + 9 * rng.below(8) + rng.below(band + 1)
+    } else {
+        rng.below(GRID)
+    };
+    if marks[sector(nearer)] && (bins || distance(nearer) < far) {
+        field[nearer] = heavy(rng);
+    }
+    field
+}
+
+/// Any bin, or a cell of the grid's corners, some of them behind the first bins.
+fn far_place(rng: &mut Rng) -> usize {
+    let corners: Vec<usize> = (0..GRID)
+        .filter(|at| (1_200..2_200).contains(&square(*at, (0, 0))))
+        .collect();
+    if rng.one_in(2) {
+        rng.pick(&corners)
+    } else {
+        GRID + rng.below(72)
+    }
+}
+
+/// One place with about 60 positions or more.
+fn one(rng: &mut Rng) -> Field {
+    let mut field = nothing();
+    field[far_place(rng)] = packed(rng.pick(&[59, 60, 90, 255]), 255, bits(rng));
+    field
+}
+
+/// Two places, the nearer of them anywhere.
+fn two(rng: &mut Rng) -> Field {
+    let mut field = nothing();
+    field[far_place(rng)] = heavy(rng);
+    let nearer = if rng.one_in(2) {
+        rng.below(GRID)
+    } else {
+        far_place(rng)
+    };
+    field[nearer] = packed(rng.pick(&[19, 60, 255]), 255, bits(rng));
+    field
+}
+
+/// A cell and a bin nearer than some others.
+fn cell_and_bin(rng: &mut Rng) -> Field {
+    let (mut field, band) = (nothing(), rng.below(4));
+    field[rng.below(GRID)] = heavy(rng);
+    field[GRID + 9 * rng.below(8) + band] = packed(rng.pick(&[19, 60, 255]), 255, bits(rng));
+    for _ in 0..1 + rng.below(4) {
+        field[GRID + 9 * rng.below(8) + band + 1 + rng.below(8 - band)] = heavy(rng);
     }
     field
 }

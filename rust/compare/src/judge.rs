@@ -4,7 +4,7 @@ use oracle::Row;
 
 use crate::excuses::{Kind, Tally};
 use crate::fields::{Case, WAYS};
-use crate::model::{self, Branch};
+use crate::model::{self, Branch, Skipped};
 use crate::report::{Failures, Outcome, Progress};
 use crate::rng::Rng;
 
@@ -15,7 +15,8 @@ struct Seen {
     differ: u64,
 }
 
-/// Judges made-up rows until each branch, and exact ties of the mean, were reached `least` times.
+/// Judges made-up rows until each branch, each way of leaving places out, and exact ties of the
+/// mean were reached `least` times.
 /// Without our judging the original is held to the whole numbers alone, and that is no pass.
 pub fn check(seed: u64, least: u64) -> Outcome {
     let mut rng = Rng::new(seed, "judge");
@@ -23,8 +24,10 @@ pub fn check(seed: u64, least: u64) -> Outcome {
     let mut progress = Progress::new("judging", most);
     let (mut tally, mut failures) = (Tally::default(), Failures::default());
     let mut seen = [Seen::default(); Branch::ALL.len()];
+    let mut skips = [Seen::default(); Skipped::ALL.len()];
     let (mut ties, mut done) = (0, 0);
-    while done < most && (ties < least || seen.iter().any(|seen| seen.count < least)) {
+    while done < most && (ties < least || seen.iter().chain(&skips).any(|seen| seen.count < least))
+    {
         let case = Case::new(&mut rng, WAYS[done as usize % WAYS.len()].1);
         done += 1;
         progress.at(done);
@@ -38,6 +41,10 @@ pub fn check(seed: u64, least: u64) -> Outcome {
         };
         let seen = &mut seen[right.branch as usize];
         seen.count += 1;
+        let mut skip = right.skipped.map(|skipped| &mut skips[skipped as usize]);
+        if let Some(skip) = &mut skip {
+            skip.count += 1;
+        }
         ties += u64::from(right.tie.is_some());
         if ours != right.number {
             failures.add(&format!(
@@ -51,6 +58,9 @@ pub fn check(seed: u64, least: u64) -> Outcome {
             continue;
         }
         seen.differ += 1;
+        if let Some(skip) = &mut skip {
+            skip.differ += 1;
+        }
         if right.tie == Some(theirs) {
             tally.count(Kind::Tie, 0.0);
         } else {
@@ -63,18 +73,12 @@ pub fn check(seed: u64, least: u64) -> Outcome {
     }
     println!("judging: {done} rows, {:.1} s", progress.seconds());
     println!("  {:<45} {:>9} {:>9}", "branch", "reached", "differ");
-    for (branch, seen) in Branch::ALL.iter().zip(seen) {
-        println!(
-            "  {:<45} {:>9} {:>9}",
-            branch.name(),
-            seen.count,
-            seen.differ
-        );
+    let ends = Branch::ALL.iter().map(|branch| branch.name()).zip(seen);
+    let skips = Skipped::ALL.iter().map(|skipped| skipped.name()).zip(skips);
+    for (name, seen) in ends.chain(skips) {
+        println!("  {name:<45} {:>9} {:>9}", seen.count, seen.differ);
         if seen.count < least {
-            failures.add(&format!(
-                "judge: {} reached under {least} times",
-                branch.name()
-            ));
+            failures.add(&format!("judge: {name} reached under {least} times"));
         }
     }
     println!(

@@ -1,4 +1,4 @@
-//! Our functions against the unchanged original: random and edge-seeking inputs from a printed
+//! Our functions against the original: random and edge-seeking inputs from a printed
 //! seed. Each difference must fall under an excuse of the document, by a distance computed from
 //! the original's own functions; the counts are printed, and one outside fails.
 

@@ -76,6 +76,46 @@ impl Branch {
     }
 }
 
+/// Which places the typical distance leaves out (Item 2), and whether their order decides it.
+#[derive(Clone, Copy, Debug, PartialEq, Eq)]
+pub enum Skipped {
+    None,
+    OneOfTwo,
+    TwoCells,
+    CellAndBin,
+    TwoBins,
+    /// The last that is left out is as near as the first that is not, with other positions: two
+    /// cells, or two bins. (No cell is as far as a bin's edge: two odd squares make no square.)
+    EqualCells,
+    EqualBins,
+}
+
+impl Skipped {
+    /// All of them.
+    pub const ALL: [Self; 7] = [
+        Self::None,
+        Self::OneOfTwo,
+        Self::TwoCells,
+        Self::CellAndBin,
+        Self::TwoBins,
+        Self::EqualCells,
+        Self::EqualBins,
+    ];
+
+    /// What is printed.
+    pub fn name(self) -> &'static str {
+        match self {
+            Self::None => "one place, none left out",
+            Self::OneOfTwo => "the nearer of two places left out",
+            Self::TwoCells => "two cells left out",
+            Self::CellAndBin => "a cell and a bin left out",
+            Self::TwoBins => "two bins left out",
+            Self::EqualCells => "a cell left out, one as near not",
+            Self::EqualBins => "a bin left out, one as near not",
+        }
+    }
+}
+
 /// A judging's end.
 #[derive(Clone, Copy, Debug, PartialEq, Eq)]
 pub struct Judged {
@@ -84,6 +124,8 @@ pub struct Judged {
     pub number: u32,
     /// At an exact tie of the mean, the number on its other side.
     pub tie: Option<u32>,
+    /// Where the nothing-near distance is said, what it leaves out.
+    pub skipped: Option<Skipped>,
 }
 
 /// A merged cell's parts.
@@ -222,27 +264,61 @@ fn past_horizon(far: &[Cell], altitude: Option<i32>) -> Option<f64> {
     enough.then(|| excesses[excesses.len() / 2])
 }
 
-/// The typical distance in steps, where nothing is near. A place: (nearest, typical, positions),
-/// lengths squared.
-fn nothing_near(places: &[(i64, i64, u32)]) -> Option<i64> {
-    let total: u32 = places.iter().map(|place| place.2).sum();
-    let mut nearest: Vec<i64> = places.iter().map(|place| place.0).collect();
-    nearest.sort_unstable();
-    let third = *nearest.get(2).or(nearest.last())?;
-    if total < 60 || third < 24 * 24 {
+/// A place heard: its number (bins after cells), its nearest and typical distances, squared, and
+/// its positions.
+#[derive(Clone, Copy)]
+struct Heard {
+    at: usize,
+    nearest: i64,
+    typical: i64,
+    positions: u32,
+}
+
+/// The typical distance in steps, where nothing is near, and which places it leaves out: it is the
+/// median of those from the third nearest on, or of the farthest alone of fewer.
+fn nothing_near(places: &[Heard]) -> Option<(i64, Skipped)> {
+    let mut places = places.to_vec();
+    places.sort_by_key(|place| (place.nearest, place.at));
+    let third = places.get(2).or(places.last())?;
+    let all: u32 = places.iter().map(|place| place.positions).sum();
+    if all < 60 || third.nearest < 24 * 24 {
         return None;
     }
-    let mut typical: Vec<(i64, u32)> = places.iter().map(|place| (place.1, place.2)).collect();
-    typical.sort_unstable();
+    let skipped = skipped(&places);
+    let from = if places.len() < 3 {
+        places.len() - 1
+    } else {
+        2
+    };
+    let mut typical = places.split_off(from);
+    typical.sort_by_key(|place| place.typical);
+    let total: u32 = typical.iter().map(|place| place.positions).sum();
     let mut passed = 0;
-    let reached = |(_, count): &&(i64, u32)| {
-        passed += count;
+    let reached = |place: &&Heard| {
+        passed += place.positions;
         2 * passed >= total
     };
-    typical
-        .iter()
-        .find(reached)
-        .map(|(square, _)| steps(*square, 1))
+    let median = typical.iter().find(reached)?;
+    Some((steps(median.typical, 1), skipped))
+}
+
+/// What is left out of places that stand in their order.
+fn skipped(places: &[Heard]) -> Skipped {
+    let is_cell = |place: &Heard| place.at < GRID;
+    match places {
+        [_] => Skipped::None,
+        [first, second, third, ..] => {
+            let equal = second.nearest == third.nearest && second.positions != third.positions;
+            match (is_cell(first), is_cell(second)) {
+                (_, true) if equal => Skipped::EqualCells,
+                (_, false) if equal => Skipped::EqualBins,
+                (true, true) => Skipped::TwoCells,
+                (false, false) => Skipped::TwoBins,
+                _ => Skipped::CellAndBin,
+            }
+        }
+        _ => Skipped::OneOfTwo,
+    }
 }
 
 /// The cells found, each with the number of cells around it.
@@ -275,6 +351,7 @@ fn near_field(grid: &[Cell], outside: bool) -> Judged {
         branch,
         number,
         tie: None,
+        skipped: None,
     };
     let places = occupied(grid);
     let (sectors, _, _) = around(&places, 0, 0);
@@ -313,6 +390,7 @@ fn near_field(grid: &[Cell], outside: bool) -> Judged {
         branch: Branch::NearField,
         number: wrong(k, 2),
         tie,
+        skipped: None,
     }
 }
 
@@ -322,6 +400,7 @@ pub fn judge(cells: &[u32; CELLS], held: &Held, now_ms: u64, aircraft: u64) -> J
         branch,
         number,
         tie: None,
+        skipped: None,
     };
     let Some(altitude) = held.site else {
         return ends(Branch::NoSite, 0);
@@ -336,25 +415,41 @@ pub fn judge(cells: &[u32; CELLS], held: &Held, now_ms: u64, aircraft: u64) -> J
     for (at, cell) in grid.iter().enumerate().filter(|(_, cell)| cell.count > 0) {
         let (e, n) = centre(at);
         let square = e * e + n * n;
-        places.push((square, square, cell.count));
+        places.push(Heard {
+            at,
+            nearest: square,
+            typical: square,
+            positions: cell.count,
+        });
         if 100 * square > 144 {
             sectors[sector(e, n)] = true;
         }
     }
     for (bin, cell) in far.iter().enumerate().filter(|(_, cell)| cell.count > 0) {
         let (edge, typical) = (EDGES[bin % 9], TYPICALS[bin % 9]);
-        places.push((edge * edge, typical * typical, cell.count));
+        places.push(Heard {
+            at: GRID + bin,
+            nearest: edge * edge,
+            typical: typical * typical,
+            positions: cell.count,
+        });
         sectors[bin / 9] = true;
     }
     let outside = sectors.iter().filter(|held| **held).count() <= 4;
     let empty = nothing_near(&places).filter(|_| outside);
+    let says = |branch, number, skipped| Judged {
+        skipped: Some(skipped),
+        ..ends(branch, number)
+    };
     match (past_horizon(far, altitude), empty) {
-        (Some(_), Some(k)) => return ends(Branch::HorizonByNothingNear, wrong(k, 1)),
+        (Some(_), Some((k, skipped))) => {
+            return says(Branch::HorizonByNothingNear, wrong(k, 1), skipped);
+        }
         (Some(excess), None) => {
             let k = ((excess / 5.0).round() as i64).max(1);
             return ends(Branch::HorizonByExcess, wrong(k, 1));
         }
-        (None, Some(k)) => return ends(Branch::NothingNear, wrong(k, 3)),
+        (None, Some((k, skipped))) => return says(Branch::NothingNear, wrong(k, 3), skipped),
         (None, None) => {}
     }
     if places.len() < 12 {
@@ -387,7 +482,7 @@ mod tests {
 
     #[test]
     fn the_sheets_cases() {
-        // P10, and the document's case of NothingNear that is near.
+        // P10, and the case of document 01 that Item 2 changes: both cells are left out.
         let bin = |count| judged(&[(GRID, packed(count, 255, 1))]);
         assert_eq!(bin(60).number, wrong(25, 3));
         assert_eq!(bin(59).number, 0);
@@ -396,7 +491,45 @@ mod tests {
             (at(1, 3), packed(1, 255, 1)),
             (GRID, packed(1, 255, 1)),
         ];
-        assert_eq!(judged(&near).number, wrong(1, 3));
+        assert_eq!(judged(&near).number, wrong(25, 3));
+        assert_eq!(judged(&near).skipped, Some(Skipped::TwoCells));
+    }
+
+    /// Of cells equally near the first in cell order is left out, of bins that with the least
+    /// number; of two places the nearer is, of one none.
+    #[test]
+    fn equals_keep_their_order() {
+        let word = |count| packed(count, 255, 1);
+        let said = |places: &[(usize, u32)]| judged(places);
+        // The nearest, two that are 37 x 37 + 1 half cells away, and one farther off.
+        let cells = |south, north| {
+            said(&[
+                (at(25, 1), word(60)),
+                (at(37, -1), word(south)),
+                (at(37, 1), word(north)),
+                (at(39, 1), word(100)),
+            ])
+        };
+        assert_eq!(cells(9, 200).number, wrong(19, 3));
+        assert_eq!(cells(200, 9).number, wrong(20, 3));
+        assert_eq!(cells(200, 9).skipped, Some(Skipped::EqualCells));
+        // Bands 0, 1 and 1 of sectors 0, 1 and 2; band 2.
+        let bins = |first, second| {
+            said(&[
+                (GRID, word(60)),
+                (GRID + 10, word(first)),
+                (GRID + 19, word(second)),
+                (GRID + 2, word(100)),
+            ])
+        };
+        assert_eq!(bins(9, 200).number, wrong(35, 3));
+        assert_eq!(bins(200, 9).number, wrong(45, 3));
+        assert_eq!(bins(200, 9).skipped, Some(Skipped::EqualBins));
+        let two = said(&[(at(25, 1), word(255)), (GRID + 1, word(1))]);
+        assert_eq!(
+            (two.number, two.skipped),
+            (wrong(35, 3), Some(Skipped::OneOfTwo))
+        );
     }
 
     #[test]

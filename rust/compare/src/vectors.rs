@@ -96,9 +96,9 @@ fn calls_head(seed: u64) -> String {
 /// What the list of rows is, and how it was made.
 fn rows_head(seed: u64) -> String {
     format!(
-        "# Judgings with the answers of the unchanged Rust, stored: the program `vectors` judges each row and counts the answers that differ. Made in rust/ by
+        "# Judgings with the answers of the Rust, stored: the program `vectors` judges each row and counts the answers that differ. Made in rust/ by
 #   cargo run --release -p compare -- --seed {seed} --write-vectors ..
-# from siting.rs of sky-commons/tally 2883b6607a: rows for each end of the judging, few cells each, from as many ways of making them as reach it.
+# from siting.rs of sky-commons/tally 2883b6607a with the edit of document 02's Item 2 that rust/oracle/build.rs makes: rows for each end of the judging, few cells each, from as many ways of making them as reach it.
 #
 #   cell I WORD     sets cell I of the row's 3,344 (the even half's 1,600 grid cells and 72 far bins, then the odd half's); all are empty at the start and after a judging
 #   judging EVEN ODD SITE ALT NOW_MS AIRCRAFT ANSWER

@@ -1,5 +1,5 @@
-//! The original, unchanged, as an oracle. build.rs lays its two files into the build's folder;
-//! `reach.rs` is compiled as its `tests.rs`, a child module, and so reaches its private parts.
+//! The original as an oracle. build.rs lays its two files into the build's folder, unchanged but
+//! for the edits that document 02 asks of the Rust; `reach.rs` is compiled as its `tests.rs`, a child module, and so reaches its private parts.
 //! Where the source is not there, [`FOUND`] is false and nothing else here may be called.
 
 /// A position or a site: latitude and longitude in degrees.

@@ -5,7 +5,7 @@ use Prim.Native.Nat.{ℕ, suc, _-_, _≤_, _<_}
 use native.Mathlib.Omega.{arith}
 use borrow.Author.Count.{below-none, below-more}
 use Rattle.nothing_near.specs.Counted.{below, reachedAt}
-use Rattle.nothing_near.proofs.Typical.{steps-fit, found-steps, reached-yes, reached-not}
+use Rattle.nothing_near.proofs.Typical.{found-steps, reached-yes, reached-not}
 use Rattle.nothing_near.proofs.Gathered.{below-zero, below-suc, below-plus}
 use borrow.Author.Needs.{needs}
 use Rattle.nothing_near.proofs.typical_steps.Statement.{statement}
@@ -27,10 +27,10 @@ array-read-passed : tie.Need-array-read-passed Inv-loop μ-loop
 array-read-passed c = search needs
 
 add-passed : tie.Need-add-passed Inv-loop μ-loop
-add-passed c = let s = c .before .before in omega (arith, below-suc (s .args .t1) (c .before .loop .k), steps-fit (s .pre .0) (s .pre .1) (s .args .t1) (s .pre .2) (suc (c .before .loop .k)))
+add-passed c = let s = c .before .before in omega (arith, below-suc (s .args .t1) (c .before .loop .k), s .pre (suc (c .before .loop .k)))
 
 mul-if1 : tie.Need-mul-if1 Inv-loop μ-loop
-mul-if1 c = let s = c .before .before in omega (arith, below-suc (s .args .t1) (c .before .loop .k), steps-fit (s .pre .0) (s .pre .1) (s .args .t1) (s .pre .2) (suc (c .before .loop .k)))
+mul-if1 c = let s = c .before .before in omega (arith, below-suc (s .args .t1) (c .before .loop .k), s .pre (suc (c .before .loop .k)))
 
 cast-result : tie.Need-cast-result Inv-loop μ-loop
 cast-result c = search needs
