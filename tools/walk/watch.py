@@ -27,9 +27,9 @@ use Rattle.receiver.specs.declared.Position.{Position}
 use Rattle.receiver.specs.Heard.{width, emptyCells, siteFits, claimed, positioned}
 use Rattle.receiver.specs.Answers.{claimingIs, hearingIs, HearingFits}
 use Rattle.moves.specs.Answers.{noKey, saying, freeing, checkAnswer, isRefused, claimPart, isUnheard, hearNo, hearPart}
-use Rattle.moves.specs.Moves.{emptiedAt, staying, seatMove, ClaimedRow, by-look, countedAt, HeardRow, judgedAt, judgedRow, judgedAs, judgedRows, checkedAs, removeMove, removedRows, oldestLook}
-use Rattle.moves.proofs.Looked.{held-site, fit-site, look-room}
-use Rattle.moves.proofs.Entries.{claim-left, claim-kept, hear-none, hear-left, hear-kept, judge-none, judge-kept, check-none, check-kept, remove-none, remove-kept, check-so, judging-so, take-room, take-so, drop-room, drop-so, claim-room, claim-so, position-room, position-so}
+use Rattle.moves.specs.Moves.{emptiedAt, staying, seatMove, ClaimedRow, by-look, countedAt, HeardRow, dueLook, judgedAt, judgedRow, judgedAs, judgedRows, checkedAs, removeMove, removedRows, oldestLook}
+use Rattle.moves.proofs.Looked.{held-site, fit-site}
+use Rattle.moves.proofs.Entries.{claim-left, claim-kept, hear-none, hear-left, hear-kept, judge-none, judge-kept, check-none, check-kept, remove-none, remove-kept, check-so, due-room, judging-so, take-room, take-so, drop-room, drop-so, claim-room, claim-so, position-room, position-so}
 use Rattle.moves.proofs.Making.{fresh-no, fresh-yes}
 use Rattle.rows.specs.declared.Look.the-variants as L
 use Rattle.receiver.specs.declared.Hearing.the-variants as Hearings
@@ -78,9 +78,11 @@ SAYS = ROWS['SAYS'] | {
     'heard_in': 'r ≡ {0} .part .heard',
     'heard_at': 'r ≡ getD {xs} (atOf {0}) blank .part .heard',
     'judge_at': 'r ≡ judgedAt {0} {1} {xs} {2} {3}',
-    'judged_part': 'r ≡ judgedRow {0} {1}',
+    'due': 'r ≡ dueLook {0} ({1} .part .«judged_ms») {2}',
+    'due_at': 'r ≡ dueLook {0} (getD {xs} (atOf {0}) blank .part .«judged_ms») {1}',
+    'judged_part': 'r ≡ judgedRow {0} {1} {2}',
     'judged': 'r ≡ saying (Wd.Judged {0})',
-    'judge_row': '(r ≡ judgedAs {0} {1}) × (zs ≡ judgedRows {xs} {0} {1})',
+    'judge_row': '(r ≡ judgedAs {0} {2}) × (zs ≡ judgedRows {xs} {0} {1} {2})',
     'check_answer': 'r ≡ checkAnswer ({0} .part .verdict)',
     'check_row': 'r ≡ checkedAs {0} (getD {xs} (atOf {0}) blank .part .verdict)',
     'remove': '(r ≡ removeMove {xs} {0} {1}) × (zs ≡ removedRows {xs} {0} {1})',
@@ -95,6 +97,7 @@ DROP = 'xs ys ws r1 r2 r3 (e1 .0) e3'
 FOUND = 'siteFits (getD xs (atOf %s) blank .part .heard .site) ≡ true'
 FUNCTIONS = {
     # on the rows alone
+    'due_at': {'params': ['xs', 'l', 't'], 'types': [('xs', 'List Row'), ('l', 'Look'), ('t', 'ℕ')], 'exit': '(e2 ∙ ap (λ (x : Row). dueLook l (x .part .«judged_ms») t) e1)'},
     'heard_at': {'params': ['xs', 'l'], 'types': [('xs', 'List Row'), ('l', 'Look')], 'exit': '(e2 ∙ ap (λ (x : Row). x .part .heard) e1)'},
     'check_row': {
         'params': ['xs', 'l'],
@@ -103,10 +106,10 @@ FUNCTIONS = {
         'exit': '(check-kept xs l r3 r4 (sym e1 ∙ no1) e3 e4)',
     },
     'judge_row': {
-        'params': ['xs', 'l', 'j'],
-        'types': [('xs', 'List Row'), ('l', 'Look'), ('j', 'Judgment')],
-        'arms': {1: '(judge-none xs l j r2 (sym e1 ∙ yes1) e2)'},
-        'exit': '(judge-kept xs l j r3 r4 r5 zs6 r7 (sym e1 ∙ no1) e3 e4 e5 e6 e7)',
+        'params': ['xs', 'l', 't', 'j'],
+        'types': [('xs', 'List Row'), ('l', 'Look'), ('t', 'ℕ'), ('j', 'Judgment')],
+        'arms': {1: '(judge-none xs l t j r2 (sym e1 ∙ yes1) e2)'},
+        'exit': '(judge-kept xs l t j r3 r4 r5 zs6 r7 (sym e1 ∙ no1) e3 e4 e5 e6 e7)',
     },
     'remove': {
         'params': ['xs', 'e', 'l'],
@@ -160,8 +163,8 @@ FUNCTIONS = {
     'judging': {
         'params': ['xs', 'ys', 'ws', 'k', 't', 'n'],
         'types': W3 + [K, ('t n', 'ℕ')],
-        'needs': {4: '(look-room ' + SEEN + ')'},
-        'exit': '(judging-so ' + SEEN + ' t n r3 r4 zs5 r5 zs1 e3 e4 e5 (e1 .1))',
+        'needs': {5: '(due-room ' + SEEN + ' t r3 e3)'},
+        'exit': '(judging-so ' + SEEN + ' t n r3 r4 r5 zs6 r6 zs1 e3 e4 e5 e6 (e1 .1))',
     },
     'check': {'params': ['xs', 'ys', 'ws', 'k'], 'types': W3 + [K], 'exit': '(check-so ' + SEEN + ' r3 zs1 (e1 .1) e3)'},
     'take_out': {

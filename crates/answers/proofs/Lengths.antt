@@ -95,6 +95,7 @@ name-length name.Wrongs = omega arith
 name-length name.K = omega arith
 name-length name.Next = omega arith
 name-length name.Room = omega arith
+name-length name.Now = omega arith
 
 -- a text, a part and a text
 module _ (a : List ℕ) where

@@ -86,7 +86,7 @@ wrote-is out s t out' n r e w = rw e at w
 
 module _ (out out' s : List ℕ) (n r : ℕ) where
   -- a word: the part of the text up to the next bar
-  pub wrote-word : (rest : List ℕ) (at k : ℕ) → rest ≡ partOf words at 634 → k ≡ firstOf 124 rest → s ≡ partOf rest 0 k → r ≡ putEnd out n s → out' ≡ putIn out n s → Wrote out n (wordAt at) out' r
+  pub wrote-word : (rest : List ℕ) (at k : ℕ) → rest ≡ partOf words at 638 → k ≡ firstOf 124 rest → s ≡ partOf rest 0 k → r ≡ putEnd out n s → out' ≡ putIn out n s → Wrote out n (wordAt at) out' r
   unfolding wordAt
   wrote-word rest at k e f g h i = wrote-is out s (wordAt at) out' n r (g ∙ ap (partOf rest 0) f ∙ ap (λ (t : List ℕ). partOf t 0 (firstOf 124 t)) e) (wrote-put out s out' n r h i)
 

@@ -56,13 +56,14 @@ nameText name.Wrongs = spell "WRONGS"
 nameText name.K = spell "K"
 nameText name.Next = spell "NEXT"
 nameText name.Room = spell "ROOM"
+nameText name.Now = spell "NOW"
 
 -- HOW THE CODE KEEPS THEM: one text, each word up to the bar (124) behind it
 abbrev pub words : List ℕ
-words = spell "|place |same |horizon |bucket |bit |digest |no |ok|ok |ok unjudged|ok fits|ok wrong | horizon| nearfield| nothingnear| | -|\n|error |: | missing| is not a number|unexpected field after |KEY is not 1 to 64 hex digits|stray space|stray comma|stray carriage return|line is longer than 1024 bytes|unknown call '|'|C is above 64, the most rows that are served|N is above 214016, the most cells that are served|I is past the rows|I is past the cells|A|ADDRESS|AFTER|AIRCRAFT|ALT|AT_MS|B|BEFORE|the call|N|DISTANCE|EVEN|FEET|FIRST|FREE|GEN|KEY|LAST|LAT|LAT1|LAT2|LON|LON1|LON2|MOVED|NOW_MS|I|ODD|OTHERS|C|SITE|WORD|VERDICT|WRONGS|K|NEXT|ROOM|"
+words = spell "|place |same |horizon |bucket |bit |digest |no |ok|ok |ok unjudged|ok fits|ok wrong | horizon| nearfield| nothingnear| | -|\n|error |: | missing| is not a number|unexpected field after |KEY is not 1 to 64 hex digits|stray space|stray comma|stray carriage return|line is longer than 1024 bytes|unknown call '|'|C is above 64, the most rows that are served|N is above 214016, the most cells that are served|I is past the rows|I is past the cells|A|ADDRESS|AFTER|AIRCRAFT|ALT|AT_MS|B|BEFORE|the call|N|DISTANCE|EVEN|FEET|FIRST|FREE|GEN|KEY|LAST|LAT|LAT1|LAT2|LON|LON1|LON2|MOVED|NOW_MS|I|ODD|OTHERS|C|SITE|WORD|VERDICT|WRONGS|K|NEXT|ROOM|NOW|"
 
 abbrev pub wordIn : List ℕ → List ℕ
 wordIn rest = partOf rest 0 (firstOf 124 rest)
 
 unfoldable pub wordAt : ℕ → List ℕ
-wordAt at = wordIn (partOf words at 634)
+wordAt at = wordIn (partOf words at 638)

@@ -79,8 +79,8 @@ pub fn put_word(out: &mut [u8], n: usize, at: usize) -> usize
     ensures { λ r. ⌜ Wrote (now (out .entry)) n (wordAt at) (now (out .exit)) r ⌝ }
 {
     let words =
-        b"|place |same |horizon |bucket |bit |digest |no |ok|ok |ok unjudged|ok fits|ok wrong | horizon| nearfield| nothingnear| | -|\n|error |: | missing| is not a number|unexpected field after |KEY is not 1 to 64 hex digits|stray space|stray comma|stray carriage return|line is longer than 1024 bytes|unknown call '|'|C is above 64, the most rows that are served|N is above 214016, the most cells that are served|I is past the rows|I is past the cells|A|ADDRESS|AFTER|AIRCRAFT|ALT|AT_MS|B|BEFORE|the call|N|DISTANCE|EVEN|FEET|FIRST|FREE|GEN|KEY|LAST|LAT|LAT1|LAT2|LON|LON1|LON2|MOVED|NOW_MS|I|ODD|OTHERS|C|SITE|WORD|VERDICT|WRONGS|K|NEXT|ROOM|";
-    let rest = fields::part(words, at, 634);
+        b"|place |same |horizon |bucket |bit |digest |no |ok|ok |ok unjudged|ok fits|ok wrong | horizon| nearfield| nothingnear| | -|\n|error |: | missing| is not a number|unexpected field after |KEY is not 1 to 64 hex digits|stray space|stray comma|stray carriage return|line is longer than 1024 bytes|unknown call '|'|C is above 64, the most rows that are served|N is above 214016, the most cells that are served|I is past the rows|I is past the cells|A|ADDRESS|AFTER|AIRCRAFT|ALT|AT_MS|B|BEFORE|the call|N|DISTANCE|EVEN|FEET|FIRST|FREE|GEN|KEY|LAST|LAT|LAT1|LAT2|LON|LON1|LON2|MOVED|NOW_MS|I|ODD|OTHERS|C|SITE|WORD|VERDICT|WRONGS|K|NEXT|ROOM|NOW|";
+    let rest = fields::part(words, at, 638);
     print::put(out, n, fields::part(rest, 0, fields::find(rest, b'|')))
 }
 
@@ -126,5 +126,6 @@ pub fn name_at(name: Name) -> usize
         Name::K => 622,
         Name::Next => 624,
         Name::Room => 629,
+        Name::Now => 634,
     }
 }

@@ -5,10 +5,10 @@ ghost use mathlib.Core.Path.{_≡_};
 ghost use lib.ListN.{length};
 
 // The words of 64 rows.
-fn row_words() -> [u64; 1472]
-    ensures { λ r. ⌜ 1472 ≡ length r ⌝ }
+fn row_words() -> [u64; 1600]
+    ensures { λ r. ⌜ 1600 ≡ length r ⌝ }
 {
-    [0; 1472]
+    [0; 1600]
 }
 
 // Their cells.

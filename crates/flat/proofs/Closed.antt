@@ -30,7 +30,7 @@ use Rattle.flat.specs.Words.{most32, most64, bytesOf, keyWords, keyOf, w
 use Rattle.flat.specs.Table.{rowsFrom, rowsOf, wordsOf}
 use Rattle.flat.proofs.Keys.{firsts, first-is, word-back}
 use Rattle.flat.proofs.Opening.{opens, opens-junk}
-use Rattle.flat.proofs.Returns.{low-is, junk-unfit}
+use Rattle.flat.proofs.Returns.{low-is, clock-closed, junk-unfit}
 use Rattle.flat.proofs.Rows.{wide-is, has, whole}
 
 -- A NUMBER OR NONE, by cases
@@ -161,10 +161,10 @@ module _ (t a b c u d v : ℕ) (q : List ℕ) where
 
 -- A ROW, its words one by one
 abbrev pub each : List ℕ → List ℕ
-each ws = firsts 23 ws 0
+each ws = firsts 25 ws 0
 
-pub each-is : (ws : List ℕ) → length ws ≡ 23 → ws ≡ each ws
-each-is ws e = sym (take-all 23 ws (omega (arith, e))) ∙ first-is 23 ws 0 (omega (arith, e))
+pub each-is : (ws : List ℕ) → length ws ≡ 25 → ws ≡ each ws
+each-is ws e = sym (take-all 25 ws (omega (arith, e))) ∙ first-is 25 ws 0 (omega (arith, e))
 
 key-closed : (a b c d : ℕ) (q : List ℕ) → (wide2 (a ∷ b ∷ c ∷ d ∷ q) && wide2 (c ∷ d ∷ q)) ≡ true → keyWords (keyOf (a ∷ b ∷ c ∷ d ∷ q)) ≡ a ∷ b ∷ c ∷ d ∷ []
 unfolding keyWords keyOf bytesOf
@@ -195,28 +195,37 @@ module _ (ws : List ℕ) where
   abbrev verdict : Bool
   verdict = verdictFits (drop 14 (each ws))
 
+  abbrev clock : Bool
+  clock = maybeFits most64 (drop 23 (each ws))
+
+  abbrev numbers : Bool
+  numbers = even && (odd && clock)
+
   each-closed : rowFits (each ws) ≡ true → fits (rowOf (each ws) .part) ≡ true → closedOf (rowOf (each ws)) ≡ each ws
   unfolding rowFits rowOf closedOf heardWords
   each-closed h g =
-      let r1 = and-2 key (low && (site && (even && (odd && verdict)))) h in
-      let l1 = and-1 low (site && (even && (odd && verdict))) r1 in
+      let r1 = and-2 key (low && (site && (numbers && verdict))) h in
+      let l1 = and-1 low (site && (numbers && verdict)) r1 in
       let l2 = and-2 (leb (w 9) most32) (leb (w 21) most32 && leb (w 22) most32) l1 in
-      let r2 = and-2 low (site && (even && (odd && verdict))) r1 in
-      let r3 = and-2 site (even && (odd && verdict)) r2 in
-      let r4 = and-2 even (odd && verdict) r3 in
+      let r2 = and-2 low (site && (numbers && verdict)) r1 in
+      let r3 = and-2 site (numbers && verdict) r2 in
+      let n1 = and-1 numbers verdict r3 in
+      let n2 = and-2 even (odd && clock) n1 in
       simp (
-        key-closed (w 0) (w 1) (w 2) (w 3) (drop 4 (each ws)) (and-1 key (low && (site && (even && (odd && verdict)))) h),
-        site-closed (w 4) (w 5) (w 6) (w 7) (w 8) (drop 9 (each ws)) (and-1 site (even && (odd && verdict)) r2) (and-1 (heard.siteFits (siteOf (drop 4 (each ws)))) (run.verdictFits (verdictOf (drop 14 (each ws)))) g),
+        key-closed (w 0) (w 1) (w 2) (w 3) (drop 4 (each ws)) (and-1 key (low && (site && (numbers && verdict))) h),
+        site-closed (w 4) (w 5) (w 6) (w 7) (w 8) (drop 9 (each ws)) (and-1 site (numbers && verdict) r2) (and-1 (heard.siteFits (siteOf (drop 4 (each ws)))) (run.verdictFits (verdictOf (drop 14 (each ws)))) g),
         low-is (w 9) (leb-true (w 9) most32 (and-1 (leb (w 9) most32) (leb (w 21) most32 && leb (w 22) most32) l1)),
-        id-closed (w 10) (w 11) (drop 12 (each ws)) (and-1 even (odd && verdict) r3),
-        id-closed (w 12) (w 13) (drop 14 (each ws)) (and-1 odd verdict r4),
-        verdict-closed (w 14) (w 15) (w 16) (w 17) (w 18) (w 19) (w 20) (drop 21 (each ws)) (and-2 odd verdict r4),
+        id-closed (w 10) (w 11) (drop 12 (each ws)) (and-1 even (odd && clock) n1),
+        id-closed (w 12) (w 13) (drop 14 (each ws)) (and-1 odd clock n2),
+        verdict-closed (w 14) (w 15) (w 16) (w 17) (w 18) (w 19) (w 20) (drop 21 (each ws)) (and-2 numbers verdict r3),
         low-is (w 21) (leb-true (w 21) most32 (and-1 (leb (w 21) most32) (leb (w 22) most32) l2)),
         low-is (w 22) (leb-true (w 22) most32 (and-2 (leb (w 21) most32) (leb (w 22) most32) l2)),
+        clock-closed (idOf (drop 23 (each ws))),
+        id-closed (w 23) (w 24) [] (and-2 odd clock n2),
       )
 
--- THE LAW OF RETURN: opened as a row that passes question 2, 23 words are what the row is closed as
-pub closed-opened : (ws : List ℕ) → length ws ≡ 23 → fits (openedOf ws .part) ≡ true → closedOf (openedOf ws) ≡ ws
+-- THE LAW OF RETURN: opened as a row that passes question 2, 25 words are what the row is closed as
+pub closed-opened : (ws : List ℕ) → length ws ≡ 25 → fits (openedOf ws .part) ≡ true → closedOf (openedOf ws) ≡ ws
 closed-opened ws long h =
     byBool (rowFits ws)
     (λ f.

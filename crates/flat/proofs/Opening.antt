@@ -26,8 +26,9 @@ use Rattle.receiver.specs.declared.WrongBy.the-variants as By
 use Rattle.receiver.specs.declared.Verdict.{Verdict}
 use Rattle.receiver.specs.declared.Judged.{Judged}
 use Rattle.receiver.specs.declared.Judged.the-variants.{With}
+use Rattle.receiver.specs.declared.JudgedAt.{JudgedAt}
 use Rattle.rows.specs.declared.Row.{Row}
-use Rattle.flat.specs.Words.{most32, most64, low32, keyOf, wide2, zeros, maybeFits, altitudeOf, siteOf, siteFits, idOf, lastOf, byOf, runOf, verdictOf, runFits, verdictFits, rowFits, headFits, heardOf, rowOf, junk, openedOf}
+use Rattle.flat.specs.Words.{most32, most64, low32, keyOf, wide2, zeros, maybeFits, altitudeOf, siteOf, siteFits, idOf, clockOf, lastOf, byOf, runOf, verdictOf, runFits, verdictFits, numbersFit, rowFits, headFits, heardOf, rowOf, junk, openedOf}
 use Rattle.flat.proofs.Runs.{here, there, further}
 
 -- NUMBERS BY NAME
@@ -166,10 +167,8 @@ and-assoc : (a b c : Bool) → ((a && b) && c) ≡ (a && (b && c))
 and-assoc true b c = refl
 and-assoc false b c = refl
 
-last-of-five : (k l s e o v : Bool) → ((k && (l && (s && (e && o)))) && v) ≡ (k && (l && (s && (e && (o && v)))))
-last-of-five k l s e o v =
-    and-assoc k (l && (s && (e && o))) v
-    ∙ ap (λ (x : Bool). k && x) (and-assoc l (s && (e && o)) v ∙ ap (λ (x : Bool). l && x) (and-assoc s (e && o) v ∙ ap (λ (x : Bool). s && x) (and-assoc e o v)))
+last-of-four : (k l s n v : Bool) → ((k && (l && (s && n))) && v) ≡ (k && (l && (s && (n && v))))
+last-of-four k l s n v = and-assoc k (l && (s && n)) v ∙ ap (λ (x : Bool). k && x) (and-assoc l (s && n) v ∙ ap (λ (x : Bool). l && x) (and-assoc s n v))
 
 module _ (ws : List ℕ) where
   pub links-fit-is : (m : ℕ) (a b c x r : Bool) → m ≡ most32 → a ≡ leb (getD ws 9 0) m → b ≡ leb (getD ws 21 0) m → c ≡ leb (getD ws 22 0) m → x ≡ (b && c) → r ≡ (a && x) → r ≡ (leb (getD ws 9 0) most32 && (leb (getD ws 21 0) most32 && leb (getD ws 22 0) most32))
@@ -178,20 +177,23 @@ module _ (ws : List ℕ) where
   pub heard-is : (s : Claimed) (g : ℕ) (e o : EpochId) → s ≡ siteOf (drop 4 ws) → g ≡ low32 (getD ws 9 0) → e ≡ idOf (drop 10 ws) → o ≡ idOf (drop 12 ws) → record { site = s; generation = g; even = e; odd = o } ≡ heardOf ws
   heard-is s g e o es eg ee eo = simp (es, eg, ee, eo)
 
-  pub head-fits-is : (j k w l s e o y z u r : Bool) (m n : ℕ) → j ≡ wide2 ws → k ≡ wide2 (drop 2 ws) → w ≡ (j && k) → l ≡ (leb (getD ws 9 0) most32 && (leb (getD ws 21 0) most32 && leb (getD ws 22 0) most32)) → s ≡ siteFits (drop 4 ws)
-      → m ≡ most64 → e ≡ maybeFits m (drop 10 ws) → n ≡ most64 → o ≡ maybeFits n (drop 12 ws) → y ≡ (e && o) → z ≡ (s && y) → u ≡ (l && z) → r ≡ (w && u) → r ≡ headFits ws
-  head-fits-is j k w l s e o y z u r m n ej ek ew el es em ee en eo ey ez eu er = simp (er, eu, ez, ey, ew, eo, en, ee, em, es, el, ek, ej)
+  pub numbers-fit-is : (m : ℕ) (a b c x r : Bool) → m ≡ most64 → a ≡ maybeFits m (drop 10 ws) → b ≡ maybeFits m (drop 12 ws) → c ≡ maybeFits m (drop 23 ws) → x ≡ (b && c) → r ≡ (a && x) → r ≡ numbersFit ws
+  numbers-fit-is m a b c x r em ea eb ec ex er = simp (er, ex, ec, eb, ea, em)
+
+  pub head-fits-is : (j k w l s n z u r : Bool) → j ≡ wide2 ws → k ≡ wide2 (drop 2 ws) → w ≡ (j && k) → l ≡ (leb (getD ws 9 0) most32 && (leb (getD ws 21 0) most32 && leb (getD ws 22 0) most32)) → s ≡ siteFits (drop 4 ws)
+      → n ≡ numbersFit ws → z ≡ (s && n) → u ≡ (l && z) → r ≡ (w && u) → r ≡ headFits ws
+  head-fits-is j k w l s n z u r ej ek ew el es en ez eu er = simp (er, eu, ez, ew, en, es, el, ek, ej)
 
   pub row-fits-is : (h v r : Bool) → h ≡ headFits ws → v ≡ verdictFits (drop 14 ws) → r ≡ (h && v) → r ≡ rowFits ws
   unfolding rowFits
   row-fits-is h v r eh ev er =
       let k = wide2 ws && wide2 (drop 2 ws) in let l = leb (getD ws 9 0) most32 && (leb (getD ws 21 0) most32 && leb (getD ws 22 0) most32) in
-      er ∙ ap₂ {C = Bool} (λ x y. x && y) eh ev ∙ last-of-five k l (siteFits (drop 4 ws)) (maybeFits most64 (drop 10 ws)) (maybeFits most64 (drop 12 ws)) (verdictFits (drop 14 ws))
+      er ∙ ap₂ {C = Bool} (λ x y. x && y) eh ev ∙ last-of-four k l (siteFits (drop 4 ws)) (numbersFit ws) (verdictFits (drop 14 ws))
 
-  pub row-is : (k : List ℕ) (h : Heard) (v : Judged) (p n : ℕ) → k ≡ keyOf ws → h ≡ heardOf ws → v ≡ verdictOf (drop 14 ws) → p ≡ low32 (getD ws 21 0) → n ≡ low32 (getD ws 22 0)
-      → record { key = k; part = record { heard = h; verdict = v }; prev = p; next = n } ≡ rowOf ws
+  pub row-is : (k : List ℕ) (h : Heard) (v : Judged) (i : EpochId) (c : JudgedAt) (p n : ℕ) → k ≡ keyOf ws → h ≡ heardOf ws → v ≡ verdictOf (drop 14 ws) → i ≡ idOf (drop 23 ws) → c ≡ clockOf i → p ≡ low32 (getD ws 21 0) → n ≡ low32 (getD ws 22 0)
+      → record { key = k; part = record { heard = h; verdict = v; «judged_ms» = c }; prev = p; next = n } ≡ rowOf ws
   unfolding rowOf
-  row-is k h v p n ek eh ev ep en = simp (ek, eh, ev, ep, en)
+  row-is k h v i c p n ek eh ev ei ec ep en = simp (ek, eh, ev, ec, ei, ep, en)
 
   pub opens : (t : Bool) (r : Row) → t ≡ rowFits ws → t ≡ true → r ≡ rowOf ws → r ≡ openedOf ws
   unfolding openedOf

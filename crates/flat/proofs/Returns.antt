@@ -4,7 +4,7 @@ use Prim.Native.Nat.{ℕ, _+_, _≤_, _<_}
 use native.Mathlib.Omega.{arith}
 use native.Mathlib.Nat.{mod-eq-of-lt}
 use mathlib.Core.Bool.{Bool, true, false, cond, not, _&&_}
-use mathlib.Core.List.{List, [], _∷_, _++_, append-assoc}
+use mathlib.Core.List.{List, [], _∷_, _++_, append-assoc, append-nil}
 use borrow.Author.Tests.{le-leb}
 use lib.Dec.{T, eqb, leb}
 use lib.ListN.{getD, drop}
@@ -27,9 +27,11 @@ use Rattle.receiver.specs.declared.WrongBy.{WrongBy}
 use Rattle.receiver.specs.declared.WrongBy.the-variants as By
 use Rattle.receiver.specs.declared.Judged.{Judged}
 use Rattle.receiver.specs.declared.Judged.the-variants.{With, Never}
+use Rattle.receiver.specs.declared.JudgedAt.{JudgedAt}
+use Rattle.receiver.specs.declared.JudgedAt.the-variants as Kept
 use Rattle.rows.specs.declared.Row.{Row}
 use Rattle.rows.specs.Read.{fits}
-use Rattle.flat.specs.Words.{most32, most64, low32, wordOf, eight, keyWords, keyOf, wide2, maybeFits, altitudeWords, altitudeOf, siteWords, siteOf, siteFits, idWords, idOf, lastWord, lastOf, byWords, byOf, verdictWords, runOf, verdictOf, runFits, verdictFits, heardWords, closedOf, rowFits, heardOf, rowOf, junk, openedOf}
+use Rattle.flat.specs.Words.{most32, most64, low32, wordOf, eight, keyWords, keyOf, wide2, maybeFits, altitudeWords, altitudeOf, siteWords, siteOf, siteFits, idWords, idOf, clockId, clockOf, lastWord, lastOf, byWords, byOf, verdictWords, runOf, verdictOf, runFits, verdictFits, heardWords, closedOf, numbersFit, rowFits, heardOf, rowOf, junk, openedOf}
 use Rattle.flat.specs.Ranges.{AltitudeIn, SiteIn, IdIn, ByIn, VerdictIn, HeardIn, RowIn}
 use Rattle.flat.proofs.Runs.{here, there, past}
 use Rattle.flat.proofs.Keys.{key-back, eight-below}
@@ -74,6 +76,15 @@ id-fits : (i : EpochId) (q : List ℕ) → IdIn i → maybeFits most64 (idWords 
 unfolding maybeFits idWords
 id-fits (Ids.Id n) q h = le-leb n most64 h
 id-fits Ids.Nothing q h = refl
+
+-- THE CLOCK as an id, and back
+clock-back : (c : JudgedAt) → clockOf (clockId c) ≡ c
+clock-back (Kept.At ms) = refl
+clock-back Kept.Never = refl
+
+pub clock-closed : (i : EpochId) → clockId (clockOf i) ≡ i
+clock-closed (Ids.Id n) = refl
+clock-closed Ids.Nothing = refl
 
 -- VERDICT
 last-back : (l : Last) → lastOf (lastWord l) ≡ l
@@ -124,8 +135,11 @@ verdict-fits (With v) q h =
 verdict-fits Never q h = refl
 
 -- A ROW: what is left of its words from each part on, whatever its key is
+abbrev clockOn : Row → List ℕ
+clockOn r = idWords (clockId (r .part .«judged_ms»))
+
 abbrev links : Row → List ℕ
-links r = r .prev ∷ r .next ∷ []
+links r = r .prev ∷ r .next ∷ clockOn r
 
 abbrev verdictOn : Row → List ℕ
 verdictOn r = verdictWords (r .part .verdict) ++ links r
@@ -143,12 +157,13 @@ siteOn r = siteWords (r .part .heard .site) ++ (r .part .heard .generation ∷ e
 pub record RestIn (r : Row) : Type 0 where
   pub heard : HeardIn (r .part .heard)
   pub verdict : VerdictIn (r .part .verdict)
+  pub clock : IdIn (clockId (r .part .«judged_ms»))
   pub prev : r .prev ≤ most32
   pub next : r .next ≤ most32
 
 -- the tests of all words but the key's
 abbrev rest-fits : List ℕ → Bool
-rest-fits ws = (leb (getD ws 9 0) most32 && (leb (getD ws 21 0) most32 && leb (getD ws 22 0) most32)) && (siteFits (drop 4 ws) && (maybeFits most64 (drop 10 ws) && (maybeFits most64 (drop 12 ws) && verdictFits (drop 14 ws))))
+rest-fits ws = (leb (getD ws 9 0) most32 && (leb (getD ws 21 0) most32 && leb (getD ws 22 0) most32)) && (siteFits (drop 4 ws) && (numbersFit ws && verdictFits (drop 14 ws)))
 
 module _ (words : List ℕ) (r : Row) (rest : drop 4 words ≡ heardWords (r .part .heard) ++ verdictOn r) where
   from4 : drop 4 words ≡ siteOn r
@@ -173,6 +188,10 @@ module _ (words : List ℕ) (r : Row) (rest : drop 4 words ≡ heardWords (r .pa
   from21 : drop 21 words ≡ links r
   from21 = past words (verdictWords (r .part .verdict)) (links r) 14 7 from14 (verdict-words (r .part .verdict))
 
+  -- a part's words and none behind it
+  from23 : drop 23 words ≡ clockOn r ++ []
+  from23 = past words (r .prev ∷ r .next ∷ []) (clockOn r) 21 2 from21 refl ∙ sym (append-nil (clockOn r))
+
   at9 : getD words 9 0 ≡ r .part .heard .generation
   at9 = sym (here words 9) ∙ ap (λ (l : List ℕ). getD l 0 0) from9
 
@@ -192,6 +211,7 @@ module _ (words : List ℕ) (r : Row) (rest : drop 4 words ≡ heardWords (r .pa
     from10,
     from12,
     from14,
+    from23,
     le-leb (r .part .heard .generation) most32 (h .heard .generation),
     le-leb (r .prev) most32 (h .prev),
     le-leb (r .next) most32 (h .next),
@@ -199,6 +219,7 @@ module _ (words : List ℕ) (r : Row) (rest : drop 4 words ≡ heardWords (r .pa
     id-fits (r .part .heard .even) (oddOn r) (h .heard .even),
     id-fits (r .part .heard .odd) (verdictOn r) (h .heard .odd),
     verdict-fits (r .part .verdict) (links r) (h .verdict),
+    id-fits (clockId (r .part .«judged_ms»)) [] (h .clock),
   )
 
   heard-back : RestIn r → heardOf words ≡ r .part .heard
@@ -218,9 +239,10 @@ module _ (words : List ℕ) (r : Row) (rest : drop 4 words ≡ heardWords (r .pa
   unfolding openedOf rowOf
   opened-words k h w e =
       let v : verdictOf (drop 14 words) ≡ r .part .verdict = ap verdictOf from14 ∙ verdict-back (r .part .verdict) (links r) (h .verdict) in
+      let c : clockOf (idOf (drop 23 words)) ≡ r .part .«judged_ms» = ap (λ (l : List ℕ). clockOf (idOf l)) from23 ∙ ap clockOf (id-back (clockId (r .part .«judged_ms»)) []) ∙ clock-back (r .part .«judged_ms») in
       let p : low32 (getD words 21 0) ≡ r .prev = ap low32 at21 ∙ low-is (r .prev) (h .prev) in
       let n : low32 (getD words 22 0) ≡ r .next = ap low32 at22 ∙ low-is (r .next) (h .next) in
-      simp (words-fit h w, e, heard-back h, v, p, n)
+      simp (words-fit h w, e, heard-back h, v, c, p, n)
 
 -- THE LAW OF RETURN
 closed-rest : (r : Row) → drop 4 (closedOf r) ≡ heardWords (r .part .heard) ++ verdictOn r
@@ -236,7 +258,7 @@ unfolding closedOf keyWords
 closed-wide r h = simp (le-leb (wordOf (eight (r .key) 0)) most64 (eight-below (r .key) 0 (h .key)), le-leb (wordOf (eight (r .key) 8)) most64 (eight-below (r .key) 8 (h .key)), le-leb (wordOf (eight (r .key) 16)) most64 (eight-below (r .key) 16 (h .key)), le-leb (wordOf (eight (r .key) 24)) most64 (eight-below (r .key) 24 (h .key)))
 
 pub opened-closed : (r : Row) → RowIn r → openedOf (closedOf r) ≡ r
-opened-closed r h = opened-words (closedOf r) r (closed-rest r) (r .key) (record { heard = h .heard; verdict = h .verdict; prev = h .prev; next = h .next }) (closed-wide r h) (closed-key r h)
+opened-closed r h = opened-words (closedOf r) r (closed-rest r) (r .key) (record { heard = h .heard; verdict = h .verdict; clock = h .clock; prev = h .prev; next = h .next }) (closed-wide r h) (closed-key r h)
 
 -- question 2 refuses a row whose words are out of range
 pub junk-unfit : fits (junk .part) ≡ false

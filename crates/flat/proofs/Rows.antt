@@ -21,18 +21,18 @@ use Rattle.flat.specs.Table.{rowsFrom, rowsOf}
 use Rattle.flat.proofs.Closing.{row-words}
 use Rattle.flat.proofs.Returns.{opened-closed}
 
-pub wide-is : 23 ≡ wordsOfRow
+pub wide-is : 25 ≡ wordsOfRow
 unfolding wordsOfRow
 wide-is = refl
 
-pub starts-at : (i : ℕ) → 23 * i ≡ wordsOfRow * i
+pub starts-at : (i : ℕ) → 25 * i ≡ wordsOfRow * i
 starts-at i = ap (λ (n : ℕ). n * i) wide-is
 
 pub start-fits : (a i : ℕ) → a ≡ wordsOfRow * i → Fits w32 i → Fits w64 (a * 8)
 unfolding wordsOfRow
 start-fits a i e h = record { fits = omega (arith, h .fits) }
 
-pub ends-at : (i : ℕ) → 23 * i + 23 ≡ wordsOfRow * i + wordsOfRow
+pub ends-at : (i : ℕ) → 25 * i + 25 ≡ wordsOfRow * i + wordsOfRow
 ends-at i = ap (λ (n : ℕ). n * i + n) wide-is
 
 some : 0 < wordsOfRow
@@ -121,10 +121,10 @@ outside-whole ws w i z e h ez =
     m : ℕ
     m = length (rowsOf ws)
 
-    c : m ≡ length ws / 23
+    c : m ≡ length ws / 25
     c = sym (count-whole ws w e h) ∙ ap (λ (n : ℕ). length ws / n) (e ∙ sym wide-is)
 
-    end : z ≡ 23 * i + 23
+    end : z ≡ 25 * i + 25
     end = ez ∙ sym (ends-at i)
 
 pub outside-torn : (ws : List ℕ) (w i : ℕ) → w ≡ wordsOfRow → length ws % w ≢ 0 → true ≡ leb (length (rowsOf ws)) i
@@ -166,10 +166,10 @@ module _ (ws : List ℕ) (i : ℕ) (t : Bool) (e : t ≡ leb (length (rowsOf ws)
 
 -- ONE ROW'S WORDS, from the a-th to before the z-th
 module _ (i a z : ℕ) (ea : a ≡ wordsOfRow * i) (ez : z ≡ wordsOfRow * i + wordsOfRow) (ys : List ℕ) where
-  pub part-long : length ys ≡ z - a → length ys ≡ 23
+  pub part-long : length ys ≡ z - a → length ys ≡ 25
   part-long h = omega (arith, h, ea, ez, wide-is)
 
-  pub part-wide : length ys ≡ z - a → 23 ≤ length ys
+  pub part-wide : length ys ≡ z - a → 25 ≤ length ys
   part-wide h = omega (arith, part-long h)
 
   -- room for the verdict
@@ -192,7 +192,7 @@ module _ (ws : List ℕ) (i a z : ℕ) (inside : i < length (rowsOf ws)) (ea : a
   end-in = let h = has ws i inside in omega (arith, ez, room-for ws (length ws / wordsOfRow) i (whole ws i h) (h .within))
 
   -- other words in their place
-  module _ (ys : List ℕ) (long : length ys ≡ 23) where
+  module _ (ys : List ℕ) (long : length ys ≡ 25) where
     abbrev after : List ℕ
     after = take a ws ++ (ys ++ drop (z - a) (drop a ws))
 

@@ -3,8 +3,8 @@ use mathlib.Core.Path.{_≡_, refl, sym, ap, _∙_}
 use Prim.Native.Nat.{ℕ, suc, _+_, _≤_, _<_}
 use native.Mathlib.Omega.{arith}
 use mathlib.Core.List.{List, [], _∷_, _++_, append-nil}
-use lib.ListN.{length, getD, set, drop, length-set}
-use lib.Seq.{sets, sets-eq, drop-length, getD-drop, drop-drop, drop-at}
+use lib.ListN.{length, getD, set, drop, length-set, length-append}
+use lib.Seq.{sets, sets-eq, drop-length, getD-drop, drop-drop, take-at, drop-at}
 
 pub after : (l xs ys : List ℕ) (i n : ℕ) → length xs ≡ n → sets (sets l i xs) (i + n) ys ≡ sets l i (xs ++ ys)
 after l [] ys i n h = ap (λ (j : ℕ). sets l j ys) (omega arith)
@@ -24,11 +24,17 @@ pub runs4 : (l a b c d w x y z : List ℕ) (i j k m : ℕ) → j ≡ i + length 
     → w ≡ sets l i a → x ≡ sets w j b → y ≡ sets x k c → z ≡ sets y m d → z ≡ sets l i (a ++ (b ++ (c ++ d)))
 runs4 l a b c d w x y z i j k m p q r e f g h = runs2 l a (b ++ (c ++ d)) w z i j p e (runs3 w b c d x y z j k m q r f g h)
 
-pub over-all : (l xs : List ℕ) → length xs ≡ length l → sets l 0 xs ≡ xs
-over-all l xs h = sets-eq xs l 0 (omega arith) ∙ ap (λ (n : ℕ). xs ++ drop n l) end ∙ ap (λ (m : List ℕ). xs ++ m) (drop-length l) ∙ append-nil xs
+-- a run over all that is left behind the first n, and over all
+pub over-rest : (p q xs : List ℕ) (n : ℕ) → length p ≡ n → length xs ≡ length q → sets (p ++ q) n xs ≡ p ++ xs
+over-rest p q xs n h e =
+    sets-eq xs (p ++ q) n (omega (arith, end)) ∙ ap (λ (l : List ℕ). (l ++ xs) ++ drop (n + length xs) (p ++ q)) (take-at p q n h)
+    ∙ ap (λ (l : List ℕ). (p ++ xs) ++ l) (ap (λ (m : ℕ). drop m (p ++ q)) end ∙ drop-length (p ++ q)) ∙ append-nil (p ++ xs)
   where
-    end : 0 + length xs ≡ length l
-    end = omega arith
+    end : n + length xs ≡ length (p ++ q)
+    end = omega (arith, h, e, length-append p q)
+
+pub over-all : (l xs : List ℕ) → length xs ≡ length l → sets l 0 xs ≡ xs
+over-all l xs h = over-rest [] l xs 0 refl h
 
 pub second-in : (l : List ℕ) (i a : ℕ) → i + 2 ≤ length l → i + 1 < length (set l i a)
 second-in l i a h = omega (arith, length-set l i a)

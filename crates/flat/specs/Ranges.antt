@@ -20,7 +20,7 @@ use Rattle.receiver.specs.declared.Verdict.{Verdict}
 use Rattle.receiver.specs.declared.Judged.{Judged}
 use Rattle.receiver.specs.declared.Judged.the-variants.{With, Never}
 use Rattle.rows.specs.declared.Row.{Row}
-use Rattle.flat.specs.Words.{most32, most64}
+use Rattle.flat.specs.Words.{most32, most64, clockId}
 
 abbrev pub Bytes : List ℕ → Type 0
 Bytes [] = Unit {0}
@@ -63,5 +63,6 @@ pub record RowIn (r : Row) : Type 0 where
   pub key : KeyIn (r .key)
   pub heard : HeardIn (r .part .heard)
   pub verdict : VerdictIn (r .part .verdict)
+  pub clock : IdIn (clockId (r .part .«judged_ms»))
   pub prev : r .prev ≤ most32
   pub next : r .next ≤ most32

@@ -1,5 +1,6 @@
--- A row as 23 numbers of 64 bits, in this order: key, four little-endian words; site: 0, or 1 and the bits of lat and lon, then the altitude: 0, or 1 and
--- its 32 bits; generation; even id and odd id: 0, or 1 and the id; verdict: 0, or 1, last, wrongs, others, distance (0, or 1 and it), moved; before; after.
+-- A row as 25 numbers of 64 bits, in this order: key, four little-endian words; site: 0, or 1 and the bits of lat and lon, then the altitude: 0, or 1 and
+-- its 32 bits; generation; even id and odd id: 0, or 1 and the id; verdict: 0, or 1, last, wrongs, others, distance (0, or 1 and it), moved; before; after;
+-- now_ms of the last accepted judging: 0, or 1 and it.
 -- Words of what is absent are 0: none is zeros of the same length. Definitions only.
 use Prim.Native.Nat.{ℕ, zero, suc, _+_, _*_, _/_, _%_, _^_}
 use mathlib.Core.Bool.{Bool, true, cond, not, _&&_}
@@ -24,6 +25,8 @@ use Rattle.receiver.specs.declared.WrongBy.the-variants as By
 use Rattle.receiver.specs.declared.Verdict.{Verdict}
 use Rattle.receiver.specs.declared.Judged.{Judged}
 use Rattle.receiver.specs.declared.Judged.the-variants.{With, Never}
+use Rattle.receiver.specs.declared.JudgedAt.{JudgedAt}
+use Rattle.receiver.specs.declared.JudgedAt.the-variants as Kept
 use Rattle.rows.specs.declared.Row.{Row}
 use Rattle.rows.specs.Links.{blank, withPart}
 
@@ -101,6 +104,15 @@ idWords Ids.Nothing = 0 ∷ 0 ∷ []
 unfoldable pub idOf : List ℕ → EpochId
 idOf ws = cond (eqb (at ws 0) 0) Ids.Nothing (Ids.Id (at ws 1))
 
+-- THE CLOCK OF THE LAST JUDGING, a number or none as an epoch id is
+abbrev pub clockId : JudgedAt → EpochId
+clockId (Kept.At ms) = Ids.Id ms
+clockId Kept.Never = Ids.Nothing
+
+abbrev pub clockOf : EpochId → JudgedAt
+clockOf (Ids.Id n) = Kept.At n
+clockOf Ids.Nothing = Kept.Never
+
 -- VERDICT
 abbrev pub lastWord : Last → ℕ
 lastWord Unjudged = 0
@@ -135,20 +147,28 @@ verdictFits ws = cond (eqb (at ws 0) 0) (zeros 6 (drop 1 ws)) (runFits ws)
 
 -- A ROW
 unfoldable pub wordsOfRow : ℕ
-wordsOfRow = 23
+wordsOfRow = 25
 
 unfoldable pub heardWords : Heard → List ℕ
 heardWords h = siteWords (h .site) ++ (h .generation ∷ (idWords (h .even) ++ idWords (h .odd)))
 
 unfoldable pub closedOf : Row → List ℕ
-closedOf r = keyWords (r .key) ++ (heardWords (r .part .heard) ++ (verdictWords (r .part .verdict) ++ (r .prev ∷ r .next ∷ [])))
+closedOf r = keyWords (r .key) ++ (heardWords (r .part .heard) ++ (verdictWords (r .part .verdict) ++ (r .prev ∷ r .next ∷ idWords (clockId (r .part .«judged_ms»)))))
+
+-- even id, odd id and the clock
+abbrev pub numbersFit : List ℕ → Bool
+numbersFit ws = maybeFits most64 (drop 10 ws) && (maybeFits most64 (drop 12 ws) && maybeFits most64 (drop 23 ws))
 
 -- every word within its range, and those of what is absent zeros
 unfoldable pub rowFits : List ℕ → Bool
 rowFits ws =
     (wide2 ws && wide2 (drop 2 ws))
     && ((leb (at ws 9) most32 && (leb (at ws 21) most32 && leb (at ws 22) most32))
-    && (siteFits (drop 4 ws) && (maybeFits most64 (drop 10 ws) && (maybeFits most64 (drop 12 ws) && verdictFits (drop 14 ws)))))
+    && (siteFits (drop 4 ws) && (numbersFit ws && verdictFits (drop 14 ws))))
+
+-- the same of all but the verdict
+abbrev pub headFits : List ℕ → Bool
+headFits ws = (wide2 ws && wide2 (drop 2 ws)) && ((leb (at ws 9) most32 && (leb (at ws 21) most32 && leb (at ws 22) most32)) && (siteFits (drop 4 ws) && numbersFit ws))
 
 -- the same of all but the verdict
 abbrev pub headFits : List ℕ → Bool
@@ -160,7 +180,7 @@ heardOf ws = record { site = siteOf (drop 4 ws); generation = low32 (at ws 9); e
 unfoldable pub rowOf : List ℕ → Row
 rowOf ws = record {
   key = keyOf ws;
-  part = record { heard = heardOf ws; verdict = verdictOf (drop 14 ws) };
+  part = record { heard = heardOf ws; verdict = verdictOf (drop 14 ws); «judged_ms» = clockOf (idOf (drop 23 ws)) };
   prev = low32 (at ws 21);
   next = low32 (at ws 22);
 }
@@ -173,6 +193,7 @@ unfoldable pub junk : Row
 junk = withPart blank (record {
   heard = record { site = At junkSite; generation = 0; even = Ids.Nothing; odd = Ids.Nothing };
   verdict = Never;
+  «judged_ms» = Kept.Never;
 })
 
 unfoldable pub openedOf : List ℕ → Row

@@ -1,4 +1,4 @@
-// Rows lent as plain numbers: 23 words of 64 bits each, so that they cross to C and Rust. A row is opened from its words and closed into them;
+// Rows lent as plain numbers: 25 words of 64 bits each, so that they cross to C and Rust. A row is opened from its words and closed into them;
 // nothing here asks for anything: words that no row was closed as open as a row that question 2 refuses.
 ghost use mathlib.Core.Path.{_≡_};
 ghost use mathlib.Core.Bool.{cond, _&&_};
@@ -12,11 +12,12 @@ ghost use mir.Syntax.{w32};
 ghost use mir.Val.{ofZ, toZ, SFits};
 ghost use Rattle.rows.specs.Links.{blank};
 ghost use Rattle.flat.specs.Words as row;
-ghost use Rattle.flat.specs.Words.{low32, wordOf, bytesOf, eight, keyWords, keyOf, wide2, zeros, maybeFits, altitudeWords, altitudeOf, siteWords, siteOf, siteFits, idWords, idOf, lastWord, lastOf, byWords, byOf, verdictWords, runOf, verdictOf, runFits, verdictFits, wordsOfRow, closedOf, rowFits, headFits, rowOf, openedOf};
+ghost use Rattle.flat.specs.Words.{low32, wordOf, bytesOf, eight, keyWords, keyOf, wide2, zeros, maybeFits, altitudeWords, altitudeOf, siteWords, siteOf, siteFits, idWords, idOf, clockId, clockOf, lastWord, lastOf, byWords, byOf, verdictWords, runOf, verdictOf, runFits, verdictFits, wordsOfRow, closedOf, rowFits, headFits, rowOf, openedOf};
 ghost use Rattle.flat.specs.Ranges.{Bytes, KeyIn, AltitudeIn, SiteIn, IdIn, ByIn, RunIn, VerdictIn, HeardIn, RowIn};
 ghost use Rattle.flat.specs.Table.{rowsOf};
 use receiver::Heard;
 use receiver::Judged;
+use receiver::JudgedAt;
 use receiver::Last;
 use receiver::Part;
 use receiver::Verdict;
@@ -33,7 +34,7 @@ use view::EpochId;
 fn row_words() -> usize
     ensures { λ r. ⌜ r ≡ wordsOfRow ⌝ }
 {
-    23
+    25
 }
 
 fn most32() -> u64
@@ -362,6 +363,25 @@ fn id_at(words: &[u64], at: usize) -> EpochId
     EpochId::Id(words[at + 1])
 }
 
+// The clock of a row's last judging is a number or none as an id is, so it is stored and read as one.
+pub fn clock_id(kept: JudgedAt) -> EpochId
+    ensures { λ r. ⌜ r ≡ clockId kept ⌝ }
+{
+    match kept {
+        JudgedAt::At(ms) => EpochId::Id(ms),
+        JudgedAt::Never => EpochId::Nothing,
+    }
+}
+
+fn clock_of(id: EpochId) -> JudgedAt
+    ensures { λ r. ⌜ r ≡ clockOf id ⌝ }
+{
+    match id {
+        EpochId::Id(n) => JudgedAt::At(n),
+        EpochId::Nothing => JudgedAt::Never,
+    }
+}
+
 // ---- verdict
 
 pub fn last_word(l: Last) -> u64
@@ -494,7 +514,7 @@ pub fn verdict_at(words: &[u64], at: usize) -> Judged
 // ---- a row
 
 pub fn put_heard(words: &mut [u64], heard: Heard)
-    requires { ⌜ 23 ≤ length (now words) ⌝ }
+    requires { ⌜ 25 ≤ length (now words) ⌝ }
     ensures { λ _. ⌜ (now (words .exit) ≡ sets (now (words .entry)) 4 (row.heardWords heard)) × HeardIn heard ⌝ }
 {
     let site = heard.site;
@@ -507,8 +527,26 @@ pub fn put_heard(words: &mut [u64], heard: Heard)
     put_id(words, 12, odd);
 }
 
+pub fn put_clock(words: &mut [u64], kept: JudgedAt)
+    requires { ⌜ 25 ≤ length (now words) ⌝ }
+    ensures { λ _. ⌜ (now (words .exit) ≡ sets (now (words .entry)) 23 (idWords (clockId kept))) × IdIn (clockId kept) ⌝ }
+{
+    put_id(words, 23, clock_id(kept));
+}
+
+// The links, and the clock behind them.
+fn put_tail(words: &mut [u64], p: u32, n: u32, kept: JudgedAt)
+    requires { ⌜ 25 ≤ length (now words) ⌝ }
+    ensures { λ _. ⌜ (now (words .exit) ≡ sets (now (words .entry)) 21 (p ∷ n ∷ idWords (clockId kept))) × (p ≤ row.most32) × (n ≤ row.most32) × IdIn (clockId kept) ⌝ }
+{
+    let a = wide32(p);
+    let b = wide32(n);
+    put2(words, 21, a, b);
+    put_clock(words, kept);
+}
+
 fn close(words: &mut [u64], row: Row)
-    requires { ⌜ length (now words) ≡ 23 ⌝ }
+    requires { ⌜ length (now words) ≡ 25 ⌝ }
     ensures { λ _. ⌜ (now (words .exit) ≡ closedOf row) × RowIn row ⌝ }
 {
     let part = row.part;
@@ -518,13 +556,12 @@ fn close(words: &mut [u64], row: Row)
     put_heard(words, heard);
     let verdict = part.verdict;
     put_verdict(words, 14, verdict);
-    let p = wide32(row.prev);
-    let n = wide32(row.next);
-    put2(words, 21, p, n);
+    let kept = part.judged_ms;
+    put_tail(words, row.prev, row.next, kept);
 }
 
 fn links_fit(words: &[u64]) -> bool
-    requires { ⌜ 23 ≤ length (now words) ⌝ }
+    requires { ⌜ 25 ≤ length (now words) ⌝ }
     ensures { λ r. ⌜ r ≡ (leb (getD (now (words .entry)) 9 0) row.most32 && (leb (getD (now (words .entry)) 21 0) row.most32 && leb (getD (now (words .entry)) 22 0) row.most32)) ⌝ }
 {
     let most = most32();
@@ -534,22 +571,31 @@ fn links_fit(words: &[u64]) -> bool
     rows::both(g, rows::both(p, n))
 }
 
+fn numbers_fit(words: &[u64]) -> bool
+    requires { ⌜ 25 ≤ length (now words) ⌝ }
+    ensures { λ r. ⌜ r ≡ row.numbersFit (now (words .entry)) ⌝ }
+{
+    let most = most64();
+    let even = maybe_fits(words, 10, most);
+    let odd = maybe_fits(words, 12, most);
+    let clock = maybe_fits(words, 23, most);
+    rows::both(even, rows::both(odd, clock))
+}
+
 // All but the verdict. A look at a row asks this and the verdict apart: each is short enough to be compiled in its place.
 pub fn head_fits(words: &[u64]) -> bool
-    requires { ⌜ 23 ≤ length (now words) ⌝ }
+    requires { ⌜ 25 ≤ length (now words) ⌝ }
     ensures { λ r. ⌜ r ≡ headFits (now (words .entry)) ⌝ }
 {
     let key = rows::both(wide2(words, 0), wide2(words, 2));
     let links = links_fit(words);
     let site = site_fits(words, 4);
-    let even = maybe_fits(words, 10, most64());
-    let odd = maybe_fits(words, 12, most64());
-    let parts = rows::both(site, rows::both(even, odd));
-    rows::both(key, rows::both(links, parts))
+    let numbers = numbers_fit(words);
+    rows::both(key, rows::both(links, rows::both(site, numbers)))
 }
 
 pub fn row_fits(words: &[u64]) -> bool
-    requires { ⌜ 23 ≤ length (now words) ⌝ }
+    requires { ⌜ 25 ≤ length (now words) ⌝ }
     ensures { λ r. ⌜ r ≡ rowFits (now (words .entry)) ⌝ }
 {
     let head = head_fits(words);
@@ -558,7 +604,7 @@ pub fn row_fits(words: &[u64]) -> bool
 }
 
 fn heard_at(words: &[u64]) -> Heard
-    requires { ⌜ 23 ≤ length (now words) ⌝ }
+    requires { ⌜ 25 ≤ length (now words) ⌝ }
     ensures { λ r. ⌜ r ≡ row.heardOf (now (words .entry)) ⌝ }
 {
     let site = site_at(words, 4);
@@ -573,17 +619,19 @@ fn heard_at(words: &[u64]) -> Heard
 }
 
 fn row_of(words: &[u64]) -> Row
-    requires { ⌜ 23 ≤ length (now words) ⌝ }
+    requires { ⌜ 25 ≤ length (now words) ⌝ }
     ensures { λ r. ⌜ r ≡ rowOf (now (words .entry)) ⌝ }
 {
     let key = key_at(words);
     let heard = heard_at(words);
     let verdict = verdict_at(words, 14);
+    let kept = clock_of(id_at(words, 23));
     Row {
         key: key,
         part: Part {
             heard: heard,
             verdict: verdict,
+            judged_ms: kept,
         },
         prev: low32(words[21]),
         next: low32(words[22]),
@@ -607,6 +655,7 @@ fn junk() -> Row
                 odd: EpochId::Nothing,
             },
             verdict: Judged::Never,
+            judged_ms: JudgedAt::Never,
         },
         prev: 4294967295,
         next: 4294967295,
@@ -614,7 +663,7 @@ fn junk() -> Row
 }
 
 fn open(words: &[u64]) -> Row
-    requires { ⌜ 23 ≤ length (now words) ⌝ }
+    requires { ⌜ 25 ≤ length (now words) ⌝ }
     ensures { λ r. ⌜ r ≡ openedOf (now (words .entry)) ⌝ }
 {
     if row_fits(words) {
@@ -637,13 +686,13 @@ pub fn count(rows: &[u64]) -> usize
 pub fn start_of(at: u32) -> usize
     ensures { λ r. ⌜ r ≡ wordsOfRow * at ⌝ }
 {
-    23 * (at as usize)
+    25 * (at as usize)
 }
 
 pub fn end_of(at: u32) -> usize
     ensures { λ r. ⌜ r ≡ wordsOfRow * at + wordsOfRow ⌝ }
 {
-    23 * (at as usize) + 23
+    25 * (at as usize) + 25
 }
 
 // Is this no row's number? Asked of every row of a pass, so without a division.

@@ -88,7 +88,7 @@ module _ (ws : List ℕ) (i : ℕ) (t : Bool) (e : t ≡ fitsAt ws i) where
     links-seen r g = g ∙ ap linksOf row-is
 
     -- other words in its place
-    module _ (ys : List ℕ) (long : length ys ≡ 23) where
+    module _ (ys : List ℕ) (long : length ys ≡ 25) where
       changed : (g : Row → Row) → openedOf ys ≡ g (openedOf part) → rowsOf (take a ws ++ (ys ++ drop (z - a) (drop a ws))) ≡ set (rowsOf ws) i (g (getD (rowsOf ws) i blank))
       changed g h = stored ws i a z (fit-in f) ea ez ys long ∙ ap (set (rowsOf ws) i) (h ∙ ap g (got ws i a z (fit-in f) ea ez (openedOf part) refl))
 

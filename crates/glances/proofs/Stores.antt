@@ -1,4 +1,4 @@
--- Stores into a row's 23 words that fit: links in place of links, a part in place of a part. The row that is read after them differs in that alone.
+-- Stores into a row's 25 words that fit: links in place of links, a part in place of a part. The row that is read after them differs in that alone.
 use mathlib.Core.Path.{_≡_, refl, sym, ap, ap₂, _∙_}
 use Prim.Native.Nat.{ℕ, _+_, _≤_}
 use native.Mathlib.Omega.{arith}
@@ -12,10 +12,10 @@ use Rattle.table.proofs.Tests.{and-1, and-2, and-both}
 use Rattle.receiver.specs.declared.Part.{Part}
 use Rattle.rows.specs.declared.Row.{Row}
 use Rattle.rows.specs.Links.{withLinks, withPart}
-use Rattle.flat.specs.Words.{most32, most64, keyOf, wide2, maybeFits, altitudeOf, siteOf, siteFits, idOf, byOf, runOf, verdictOf, runFits, verdictFits, heardWords, verdictWords, rowFits, rowOf, junk, openedOf}
-use Rattle.flat.specs.Ranges.{HeardIn, VerdictIn}
-use Rattle.flat.proofs.Runs.{runs2}
-use Rattle.flat.proofs.Closing.{heard-words, verdict-words}
+use Rattle.flat.specs.Words.{most32, most64, keyOf, wide2, maybeFits, altitudeOf, siteOf, siteFits, idOf, byOf, runOf, verdictOf, runFits, verdictFits, numbersFit, clockId, idWords, heardWords, verdictWords, rowFits, rowOf, junk, openedOf}
+use Rattle.flat.specs.Ranges.{HeardIn, VerdictIn, IdIn}
+use Rattle.flat.proofs.Runs.{runs2, over-rest}
+use Rattle.flat.proofs.Closing.{heard-words, verdict-words, id-words}
 use Rattle.flat.proofs.Returns.{low-is, opened-words}
 use Rattle.flat.proofs.Closed.{each, each-is}
 use Rattle.glances.proofs.Places.{opened-fit}
@@ -28,9 +28,9 @@ abbrev low : List ℕ → Bool
 low l = leb (getD l 9 0) most32 && (leb (getD l 21 0) most32 && leb (getD l 22 0) most32)
 
 abbrev rest : List ℕ → Bool
-rest l = siteFits (drop 4 l) && (maybeFits most64 (drop 10 l) && (maybeFits most64 (drop 12 l) && verdictFits (drop 14 l)))
+rest l = siteFits (drop 4 l) && (numbersFit l && verdictFits (drop 14 l))
 
-module _ (ws : List ℕ) (long : length ws ≡ 23) (fit : rowFits ws ≡ true) where
+module _ (ws : List ℕ) (long : length ws ≡ 25) (fit : rowFits ws ≡ true) where
   fit-each : rowFits (each ws) ≡ true
   fit-each = ap rowFits (sym (each-is ws long)) ∙ fit
 
@@ -58,23 +58,40 @@ module _ (ws : List ℕ) (long : length ws ≡ 23) (fit : rowFits ws ≡ true) w
         ∙ ap (λ (r : Row). withLinks r p n) (sym (opened-fit (each ws) fit-each) ∙ ap openedOf (sym (each-is ws long)))
 
   -- A PART
-  module _ (part : Part) (heard : HeardIn (part .heard)) (verdict : VerdictIn (part .verdict)) where
+  module _ (part : Part) (heard : HeardIn (part .heard)) (verdict : VerdictIn (part .verdict)) (clock : IdIn (clockId (part .«judged_ms»))) where
     abbrev partWords : List ℕ
     partWords = heardWords (part .heard) ++ verdictWords (part .verdict)
 
     part-words : length partWords ≡ 17
     part-words = length-append (heardWords (part .heard)) (verdictWords (part .verdict)) ∙ omega (arith, heard-words (part .heard), verdict-words (part .verdict))
 
+    abbrev links : List ℕ
+    links = getD ws 21 0 ∷ getD ws 22 0 ∷ []
+
+    abbrev kept : List ℕ
+    kept = idWords (clockId (part .«judged_ms»))
+
+    -- all words before the clock's
+    abbrev front : List ℕ
+    front = getD ws 0 0 ∷ getD ws 1 0 ∷ getD ws 2 0 ∷ getD ws 3 0 ∷ (partWords ++ links)
+
+    front-words : length front ≡ 23
+    front-words = omega (arith, length-append partWords links, part-words)
+
     abbrev parted : List ℕ
-    parted = getD ws 0 0 ∷ getD ws 1 0 ∷ getD ws 2 0 ∷ getD ws 3 0 ∷ (partWords ++ (getD ws 21 0 ∷ getD ws 22 0 ∷ []))
+    parted = front ++ kept
 
     abbrev row : Row
     row = record { key = keyOf (each ws); part = part; prev = getD ws 21 0; next = getD ws 22 0 }
 
-    parted-is : sets ws 4 partWords ≡ parted
-    parted-is =
+    front-is : sets ws 4 partWords ≡ front ++ (getD ws 23 0 ∷ getD ws 24 0 ∷ [])
+    front-is =
         ap (λ (l : List ℕ). sets l 4 partWords) (each-is ws long) ∙ sets-eq partWords (each ws) 4 (omega (arith, part-words))
         ∙ ap (λ (n : ℕ). take 4 (each ws) ++ (partWords ++ drop (4 + n) (each ws))) part-words
+        ∙ ap (λ (l : List ℕ). take 4 (each ws) ++ l) (sym (append-assoc partWords links (getD ws 23 0 ∷ getD ws 24 0 ∷ [])))
+
+    parted-is : sets (sets ws 4 partWords) 23 kept ≡ parted
+    parted-is = ap (λ (l : List ℕ). sets l 23 kept) front-is ∙ over-rest front (getD ws 23 0 ∷ getD ws 24 0 ∷ []) kept 23 front-words (id-words (clockId (part .«judged_ms»)))
 
     small : (leb (getD ws 21 0) most32 && leb (getD ws 22 0) most32) ≡ true
     unfolding rowFits
@@ -93,14 +110,14 @@ module _ (ws : List ℕ) (long : length ws ≡ 23) (fit : rowFits ws ≡ true) w
     parted-row : openedOf parted ≡ row
     unfolding keyOf
     parted-row =
-        opened-words parted row (append-assoc (heardWords (part .heard)) (verdictWords (part .verdict)) (getD ws 21 0 ∷ getD ws 22 0 ∷ [])) (keyOf (each ws))
-        (record { heard = heard; verdict = verdict; prev = small-prev; next = small-next }) key-fits refl
+        opened-words parted row (append-assoc partWords links kept ∙ append-assoc (heardWords (part .heard)) (verdictWords (part .verdict)) (links ++ kept)) (keyOf (each ws))
+        (record { heard = heard; verdict = verdict; clock = clock; prev = small-prev; next = small-next }) key-fits refl
 
     row-is : row ≡ withPart (rowOf (each ws)) part
     unfolding rowOf
     row-is = ap₂ {C = Row} (λ x y. record { key = keyOf (each ws); part = part; prev = x; next = y }) (sym (low-is (getD ws 21 0) (small-prev))) (sym (low-is (getD ws 22 0) (small-next)))
 
-    pub part-stored : (y z : List ℕ) → y ≡ sets ws 4 (heardWords (part .heard)) → z ≡ sets y 14 (verdictWords (part .verdict)) → openedOf z ≡ withPart (openedOf ws) part
-    part-stored y z ey ez =
-        ap openedOf (runs2 ws (heardWords (part .heard)) (verdictWords (part .verdict)) y z 4 14 (omega (arith, heard-words (part .heard))) ey ez ∙ parted-is) ∙ parted-row ∙ row-is
+    pub part-stored : (x y z : List ℕ) → x ≡ sets ws 4 (heardWords (part .heard)) → y ≡ sets x 14 (verdictWords (part .verdict)) → z ≡ sets y 23 kept → openedOf z ≡ withPart (openedOf ws) part
+    part-stored x y z ex ey ez =
+        ap openedOf (ez ∙ ap (λ (l : List ℕ). sets l 23 kept) (runs2 ws (heardWords (part .heard)) (verdictWords (part .verdict)) x y 4 14 (omega (arith, heard-words (part .heard))) ex ey) ∙ parted-is) ∙ parted-row ∙ row-is
         ∙ ap (λ (r : Row). withPart r part) (sym (opened-fit (each ws) fit-each) ∙ ap openedOf (sym (each-is ws long)))

@@ -42,7 +42,7 @@ fn fits_at(rows: &[u64], at: u32) -> bool
 }
 
 fn links_of(words: &[u64]) -> Links
-    requires { ⌜ 23 ≤ length (now words) ⌝ }
+    requires { ⌜ 25 ≤ length (now words) ⌝ }
     ensures { λ r. ⌜ r ≡ linksOf (rowOf (now (words .entry))) ⌝ }
 {
     Links {
@@ -91,7 +91,7 @@ fn same_words(words: &[u64], key: &[u64; 4]) -> bool
 }
 
 fn sound_at(words: &[u64]) -> bool
-    requires { ⌜ 23 ≤ length (now words) ⌝ }
+    requires { ⌜ 25 ≤ length (now words) ⌝ }
     ensures { λ r. ⌜ r ≡ fits (rowOf (now (words .entry)) .part) ⌝ }
 {
     let site = flat::site_at(words, 4);
@@ -111,7 +111,7 @@ pub fn words_of(key: [u8; 32]) -> [u64; 4]
 }
 
 fn glance_of(words: &[u64], key: &[u64; 4]) -> Glance
-    requires { ⌜ 23 ≤ length (now words) ⌝ }
+    requires { ⌜ 25 ≤ length (now words) ⌝ }
     ensures { λ r. ⌜ r ≡ glanceOf (keyOf (now (key .entry))) (rowOf (now (words .entry))) ⌝ }
 {
     let links = links_of(words);
@@ -157,8 +157,8 @@ pub fn look_at(rows: &[u64], at: u32, key: &[u64; 4]) -> Glance
 }
 
 fn store_links(words: &mut [u64], p: u32, n: u32)
-    requires { ⌜ (length (now words) ≡ 23) × (rowFits (now words) ≡ true) ⌝ }
-    ensures { λ _. ⌜ (openedOf (now (words .exit)) ≡ withLinks (openedOf (now (words .entry))) p n) × (length (now (words .exit)) ≡ 23) ⌝ }
+    requires { ⌜ (length (now words) ≡ 25) × (rowFits (now words) ≡ true) ⌝ }
+    ensures { λ _. ⌜ (openedOf (now (words .exit)) ≡ withLinks (openedOf (now (words .entry))) p n) × (length (now (words .exit)) ≡ 25) ⌝ }
 {
     let a = flat::wide32(p);
     let b = flat::wide32(n);
@@ -166,13 +166,15 @@ fn store_links(words: &mut [u64], p: u32, n: u32)
 }
 
 fn store_part(words: &mut [u64], part: Part)
-    requires { ⌜ (length (now words) ≡ 23) × (rowFits (now words) ≡ true) ⌝ }
-    ensures { λ _. ⌜ (openedOf (now (words .exit)) ≡ withPart (openedOf (now (words .entry))) part) × (length (now (words .exit)) ≡ 23) ⌝ }
+    requires { ⌜ (length (now words) ≡ 25) × (rowFits (now words) ≡ true) ⌝ }
+    ensures { λ _. ⌜ (openedOf (now (words .exit)) ≡ withPart (openedOf (now (words .entry))) part) × (length (now (words .exit)) ≡ 25) ⌝ }
 {
     let heard = part.heard;
     let verdict = part.verdict;
     flat::put_heard(words, heard);
     flat::put_verdict(words, 14, verdict);
+    let kept = part.judged_ms;
+    flat::put_clock(words, kept);
 }
 
 pub fn set_links(rows: &mut [u64], at: u32, p: u32, n: u32)

@@ -23,12 +23,13 @@ use Rattle.grammar.specs.declared.place.Whole.{Whole}
 use Rattle.grammar.specs.declared.place.Small.{Small}
 use Rattle.grammar.specs.declared.place.PartHeld.{PartHeld}
 use Rattle.grammar.specs.declared.place.LinksHeld.{LinksHeld}
+use Rattle.grammar.specs.declared.place.ClockHeld.{ClockHeld}
 use Rattle.grammar.specs.declared.place.FeetHeld.{FeetHeld}
 use Rattle.grammar.specs.declared.place.Named.{Named}
 use Rattle.grammar.specs.declared.place.Two.{Two}
 use Rattle.grammar.specs.declared.place.Four.{Four}
 use Rattle.grammar.specs.declared.place.SiteHeld.{SiteHeld}
-use Rattle.grammar.specs.Fields.{startAt, wholeAt, smallAt, linkAt, feetAt, keyAt, endedAt, twoAt, fourAt, claimAt, partAt, linksAt}
+use Rattle.grammar.specs.Fields.{startAt, wholeAt, smallAt, linkAt, feetAt, keyAt, endedAt, twoAt, fourAt, claimAt, partAt, linksAt, clockAt}
 use Rattle.grammar.specs.Lines.{wordPlace, wordSame, wordHorizon, wordBucket, wordBit, wordFresh, wordDrop, wordCheck, wordTakeout, wordClaim, wordPosition, wordJudging, wordTurn, wordWatch, wordDigest, wordLend, wordRow, wordCell, wordEnds, pickOf, whichSingle, whichCall, whichLent, whichOf, saying, toldBy, bareLine, keyLine, watchLine, claimLine, positionLine, judgingLine, turnLine, placeLine, sameLine, horizonLine, bucketLine, bitLine, lendLine, rowLine, cellLine, endsLine, lineBy, callOf, returnAtEnd, textBy, textOf, lineOf}
 
 -- ---- the words
@@ -125,10 +126,10 @@ module _ (t : List ℕ) (p : Place) where
   unfolding endsLine
   ends-line a b d r h1 h2 h3 h4 = rw (h4, h3, h2, h1)
 
-  pub row-line : (i : Small) (k : Named) (x : PartHeld) (y : LinksHeld) (e : Place) (l : Line) → i ≡ smallAt t p name.Number → k ≡ keyAt t (i .place) → x ≡ partAt t (k .place) → y ≡ linksAt t (x .place)
-      → e ≡ endedAt t (y .place) name.After → l ≡ toldBy e (line.Row (i .n) (x .part) (y .prev) (y .next)) → record { line = l; key = k .key } ≡ rowLine t p
+  pub row-line : (i : Small) (k : Named) (x : PartHeld) (y : LinksHeld) (c : ClockHeld) (e : Place) (l : Line) → i ≡ smallAt t p name.Number → k ≡ keyAt t (i .place) → x ≡ partAt t (k .place) → y ≡ linksAt t (x .place) → c ≡ clockAt t (y .place)
+      → e ≡ endedAt t (c .place) name.Now → l ≡ toldBy e (line.Row (i .n) (rowPart x c) (y .prev) (y .next)) → record { line = l; key = k .key } ≡ rowLine t p
   unfolding rowLine
-  row-line i k x y e l h1 h2 h3 h4 h5 h6 = rw (h6, h5, h4, h3, h2, h1)
+  row-line i k x y c e l h1 h2 h3 h4 h5 h6 h7 = rw (h7, h6, h5, h4, h3, h2, h1)
 
 -- ---- a call, a text, a line
 pub kind-is : (k m : Kind) (t : List ℕ) (end : ℕ) (p : Place) (r : Said) → k ≡ m → r ≡ lineBy m t end p → r ≡ lineBy k t end p

@@ -27,6 +27,7 @@ use Rattle.receiver.specs.declared.Last.{Last}
 use Rattle.receiver.specs.declared.Last.the-variants as last
 use Rattle.receiver.specs.declared.WrongBy.the-variants as wrongBy
 use Rattle.view.specs.declared.EpochId.the-variants as epoch
+use Rattle.receiver.specs.declared.JudgedAt.the-variants as judgedAt
 use Rattle.cells.specs.declared.Height.the-variants as height
 use Rattle.sites.specs.declared.Altitude.the-variants as altitude
 use Rattle.receiver.specs.declared.Judged.{Judged}
@@ -52,7 +53,8 @@ use Rattle.grammar.specs.declared.place.EpochHeld.{EpochHeld}
 use Rattle.grammar.specs.declared.place.RunsHeld.{RunsHeld}
 use Rattle.grammar.specs.declared.place.HeardHeld.{HeardHeld}
 use Rattle.grammar.specs.declared.place.VerdictHeld.{VerdictHeld}
-use Rattle.grammar.specs.Fields.{failedAt, movedTo, pieceAt, pieceBy, bytesOf, wholeBy, wholeAt, isDash, maybeAt, feetBy, feetAt, altitudeBy, altitudeAt, realBy, realAt, keyBy, keyAt, endedBy, endedAt, smallAt, byteAt, epochAt, linkAt, distanceAt, lastOf, twoAt, fourAt, siteFields, claimAt, partsOf, backTo, siteParts, siteAt, runsAt, verdictParts, verdictAt, heardAt, partAt, linksAt}
+use Rattle.grammar.specs.declared.place.ClockHeld.{ClockHeld}
+use Rattle.grammar.specs.Fields.{failedAt, movedTo, pieceAt, pieceBy, bytesOf, wholeBy, wholeAt, isDash, maybeAt, feetBy, feetAt, altitudeBy, altitudeAt, realBy, realAt, keyBy, keyAt, endedBy, endedAt, smallAt, byteAt, epochAt, linkAt, distanceAt, lastOf, twoAt, fourAt, siteFields, claimAt, partsOf, backTo, siteParts, siteAt, runsAt, verdictParts, verdictAt, heardAt, partAt, linksAt, clockField, clockBy, clockAt}
 
 -- ---- one field
 module _ (t : List ℕ) (p : Place) (n : Name) where
@@ -268,10 +270,30 @@ module _ (t : List ℕ) (p : Place) where
   unfolding heardAt
   heard-is s g a b e f h i = rw (i, h, f, e)
 
-  pub part-is : (h : HeardHeld) (v : VerdictHeld) → h ≡ heardAt t p → v ≡ verdictAt t (h .place) → record { part = record { heard = h .heard; verdict = v .verdict }; place = v .place } ≡ partAt t p
+  pub part-is : (h : HeardHeld) (v : VerdictHeld) → h ≡ heardAt t p → v ≡ verdictAt t (h .place) → record { heard = h .heard; verdict = v .verdict; place = v .place } ≡ partAt t p
   unfolding partAt
   part-is h v e f = rw (f, e)
 
   pub links-are : (x y : Small) → x ≡ linkAt t p name.Before → y ≡ linkAt t (x .place) name.After → record { prev = x .n; next = y .n; place = y .place } ≡ linksAt t p
   unfolding linksAt
   links-are x y e f = rw (f, e)
+
+  pub clock-some : (m : Maybe) → m ≡ maybeAt t p (2 ^ 64 - 1) name.Now → m .some ≡ true → record { kept = judgedAt.At (m .n); place = m .place } ≡ clockField t p
+  unfolding clockField
+  clock-some m e f = rw (← e, f)
+
+  pub clock-none : (m : Maybe) → m ≡ maybeAt t p (2 ^ 64 - 1) name.Now → m .some ≡ false → record { kept = judgedAt.Never; place = m .place } ≡ clockField t p
+  unfolding clockField
+  clock-none m e f = rw (← e, f)
+
+  pub clock-there : (f : Field) (s e next : ℕ) (r : ClockHeld) → f ≡ fieldAt (p .sep) t (p .at) → f ≡ At s e next → r ≡ clockField t p → r ≡ clockAt t p
+  unfolding clockAt
+  clock-there f s e next r h g k = k ∙ sym (ap (clockBy t p) (sym h ∙ g))
+
+  pub clock-stray : (f : Field) (r : ClockHeld) → f ≡ fieldAt (p .sep) t (p .at) → f ≡ Stray → r ≡ clockField t p → r ≡ clockAt t p
+  unfolding clockAt
+  clock-stray f r h g k = k ∙ sym (ap (clockBy t p) (sym h ∙ g))
+
+  pub clock-missing : (f : Field) → f ≡ fieldAt (p .sep) t (p .at) → f ≡ End → record { kept = judgedAt.Never; place = p } ≡ clockAt t p
+  unfolding clockAt
+  clock-missing f h g = sym (ap (clockBy t p) (sym h ∙ g))

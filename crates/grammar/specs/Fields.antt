@@ -23,6 +23,7 @@ use Rattle.receiver.specs.declared.WrongBy.the-variants as wrongBy
 use Rattle.receiver.specs.declared.Last.{Last}
 use Rattle.receiver.specs.declared.Last.the-variants as last
 use Rattle.receiver.specs.declared.Judged.the-variants as judged
+use Rattle.receiver.specs.declared.JudgedAt.the-variants as judgedAt
 use Rattle.grammar.specs.declared.Name.{Name}
 use Rattle.grammar.specs.declared.Name.the-variants as name
 use Rattle.grammar.specs.declared.Fault.{Fault}
@@ -46,6 +47,7 @@ use Rattle.grammar.specs.declared.place.RunsHeld.{RunsHeld}
 use Rattle.grammar.specs.declared.place.HeardHeld.{HeardHeld}
 use Rattle.grammar.specs.declared.place.PartHeld.{PartHeld}
 use Rattle.grammar.specs.declared.place.LinksHeld.{LinksHeld}
+use Rattle.grammar.specs.declared.place.ClockHeld.{ClockHeld}
 use Rattle.grammar.specs.declared.place.VerdictHeld.{VerdictHeld}
 
 -- all is good at first; the fault that is kept then is not looked at
@@ -273,7 +275,7 @@ heardAt t p = heardBy t (siteAt t p)
 
 -- SITE GEN EVEN ODD VERDICT
 abbrev pub partHeld : HeardHeld → VerdictHeld → PartHeld
-partHeld h v = record { part = record { heard = h .heard; verdict = v .verdict }; place = v .place }
+partHeld h v = record { heard = h .heard; verdict = v .verdict; place = v .place }
 
 unfoldable pub partAt : List ℕ → Place → PartHeld
 partAt t p = partHeld (heardAt t p) (verdictAt t (heardAt t p .place))
@@ -284,3 +286,18 @@ linksOf x y = record { prev = x .n; next = y .n; place = y .place }
 
 unfoldable pub linksAt : List ℕ → Place → LinksHeld
 linksAt t p = linksOf (linkAt t p name.Before) (linkAt t (linkAt t p name.Before .place) name.After)
+
+-- NOW, the last field of a row, `-` or a number; missing it is none
+abbrev pub clockOf : Maybe → ClockHeld
+clockOf m = record { kept = cond (m .some) (judgedAt.At (m .n)) judgedAt.Never; place = m .place }
+
+unfoldable pub clockField : List ℕ → Place → ClockHeld
+clockField t p = clockOf (maybeAt t p (2 ^ 64 - 1) name.Now)
+
+abbrev pub clockBy : List ℕ → Place → Field → ClockHeld
+clockBy t p (At s e next) = clockField t p
+clockBy t p Stray = clockField t p
+clockBy t p End = record { kept = judgedAt.Never; place = p }
+
+unfoldable pub clockAt : List ℕ → Place → ClockHeld
+clockAt t p = clockBy t p (fieldAt (p .sep) t (p .at))

@@ -4,10 +4,11 @@ use mathlib.Core.Bool.{Bool, _&&_, cond}
 use mathlib.Core.List.{List, [], _∷_}
 use lib.Dec.{eqb, ltb}
 use lib.ListN.{length, getD, replicate}
+use Rattle.receiver.specs.declared.Part.{Part}
 use Rattle.fields.specs.Text.{textEnd, fieldAt, partOf, sameBytes}
 use Rattle.fields.specs.declared.Field.{Field}
 use Rattle.fields.specs.declared.Field.the-variants.{At, Stray, End}
-use Rattle.grammar.specs.Fields.{startAt, wholeAt, smallAt, linkAt, feetAt, keyAt, endedAt, twoAt, fourAt, claimAt, partAt, linksAt}
+use Rattle.grammar.specs.Fields.{startAt, wholeAt, smallAt, linkAt, feetAt, keyAt, endedAt, twoAt, fourAt, claimAt, partAt, linksAt, clockAt}
 use Rattle.grammar.specs.declared.Name.the-variants as name
 use Rattle.grammar.specs.declared.Fault.the-variants as fault
 use Rattle.grammar.specs.declared.Line.{Line}
@@ -21,6 +22,7 @@ use Rattle.grammar.specs.declared.place.Whole.{Whole}
 use Rattle.grammar.specs.declared.place.Small.{Small}
 use Rattle.grammar.specs.declared.place.PartHeld.{PartHeld}
 use Rattle.grammar.specs.declared.place.LinksHeld.{LinksHeld}
+use Rattle.grammar.specs.declared.place.ClockHeld.{ClockHeld}
 use Rattle.grammar.specs.declared.place.FeetHeld.{FeetHeld}
 use Rattle.grammar.specs.declared.place.Named.{Named}
 use Rattle.grammar.specs.declared.place.Two.{Two}
@@ -231,15 +233,21 @@ lendBy t a = lendOf t a (smallAt t (a .place) name.Cells)
 unfoldable pub lendLine : List ℕ → Place → Said
 lendLine t p = lendBy t (smallAt t p name.Rows)
 
--- row I KEY SITE GEN EVEN ODD VERDICT BEFORE AFTER
-abbrev pub rowOf : List ℕ → Small → Named → PartHeld → LinksHeld → Said
-rowOf t i k x y = record { line = toldBy (endedAt t (y .place) name.After) (line.Row (i .n) (x .part) (y .prev) (y .next)); key = k .key }
+-- row I KEY SITE GEN EVEN ODD VERDICT BEFORE AFTER [NOW]
+abbrev pub rowPart : PartHeld → ClockHeld → Part
+rowPart x c = record { heard = x .heard; verdict = x .verdict; «judged_ms» = c .kept }
 
-abbrev pub rowPart : List ℕ → Small → Named → PartHeld → Said
-rowPart t i k x = rowOf t i k x (linksAt t (x .place))
+abbrev pub rowOf : List ℕ → Small → Named → PartHeld → LinksHeld → ClockHeld → Said
+rowOf t i k x y c = record { line = toldBy (endedAt t (c .place) name.Now) (line.Row (i .n) (rowPart x c) (y .prev) (y .next)); key = k .key }
+
+abbrev pub rowLinks : List ℕ → Small → Named → PartHeld → LinksHeld → Said
+rowLinks t i k x y = rowOf t i k x y (clockAt t (y .place))
+
+abbrev pub rowParts : List ℕ → Small → Named → PartHeld → Said
+rowParts t i k x = rowLinks t i k x (linksAt t (x .place))
 
 abbrev pub rowKey : List ℕ → Small → Named → Said
-rowKey t i k = rowPart t i k (partAt t (k .place))
+rowKey t i k = rowParts t i k (partAt t (k .place))
 
 abbrev pub rowBy : List ℕ → Small → Said
 rowBy t i = rowKey t i (keyAt t (i .place))

@@ -6,6 +6,7 @@ use crate::Name;
 use crate::Said;
 use crate::place;
 use crate::place::Place;
+use receiver::Part;
 use receiver::Position;
 ghost use mathlib.Core.Path.{_≡_};
 ghost use Rattle.grammar.specs.Fields.{endedAt};
@@ -310,10 +311,19 @@ fn row_line(t: &[u8], p: Place) -> Said
     let key = k.key;
     let x = place::part_at(t, pk);
     let px = x.place;
-    let part = x.part;
+    let heard = x.heard;
+    let verdict = x.verdict;
     let y = place::links_at(t, px);
     let py = y.place;
-    let e = place::ended(t, py, Name::After);
+    let c = place::clock_at(t, py);
+    let pc = c.place;
+    let judged_ms = c.kept;
+    let e = place::ended(t, pc, Name::Now);
+    let part = Part {
+        heard,
+        verdict,
+        judged_ms,
+    };
     Said {
         line: told(
             e,

@@ -49,6 +49,7 @@ pub enum Name {
     Value,
     Verdict,
     Wrongs,
+    Now,
 }
 
 // Why a line cannot be read, or not be done.

@@ -8,8 +8,8 @@ use numbers::Real;
 use numbers::Signed;
 use receiver::Heard;
 use receiver::Judged;
+use receiver::JudgedAt;
 use receiver::Last;
-use receiver::Part;
 use receiver::Verdict;
 use receiver::WrongBy;
 use sites::Altitude;
@@ -18,7 +18,7 @@ use sites::Site;
 use view::EpochId;
 ghost use mathlib.Core.Path.{_≡_};
 ghost use Prim.Native.Nat.{_≤_};
-ghost use Rattle.grammar.specs.Fields.{startAt, failedAt, movedTo, pieceAt, bytesOf, wholeAt, maybeAt, feetAt, altitudeAt, realAt, keyAt, endedAt, isDash, smallAt, byteAt, epochAt, linkAt, distanceAt, lastOf, twoAt, fourAt, siteFields, claimAt, partsOf, backTo, siteParts, siteAt, runsAt, verdictParts, verdictAt, heardAt, partAt, linksAt};
+ghost use Rattle.grammar.specs.Fields.{startAt, failedAt, movedTo, pieceAt, bytesOf, wholeAt, maybeAt, feetAt, altitudeAt, realAt, keyAt, endedAt, isDash, smallAt, byteAt, epochAt, linkAt, distanceAt, lastOf, twoAt, fourAt, siteFields, claimAt, partsOf, backTo, siteParts, siteAt, runsAt, verdictParts, verdictAt, heardAt, partAt, linksAt, clockField, clockAt};
 
 // Where reading stands: the next field starts at `at`, and a `sep` ends it; and what was wrong first, if not all was good.
 pub struct Place {
@@ -608,7 +608,13 @@ pub struct HeardHeld {
 }
 
 pub struct PartHeld {
-    pub part: Part,
+    pub heard: Heard,
+    pub verdict: Judged,
+    pub place: Place,
+}
+
+pub struct ClockHeld {
+    pub kept: JudgedAt,
     pub place: Place,
 }
 
@@ -652,8 +658,11 @@ pub fn part_at(t: &[u8], p: Place) -> PartHeld
     let v = verdict_at(t, q);
     let e = v.place;
     let verdict = v.verdict;
-    let part = Part { heard, verdict };
-    PartHeld { part, place: e }
+    PartHeld {
+        heard,
+        verdict,
+        place: e,
+    }
 }
 
 // BEFORE AFTER
@@ -668,5 +677,40 @@ pub fn links_at(t: &[u8], p: Place) -> LinksHeld
         prev: x.n,
         next: y.n,
         place: e,
+    }
+}
+
+fn clock_field(t: &[u8], p: Place) -> ClockHeld
+    ensures { λ r. ⌜ r ≡ clockField (now (t .entry)) p ⌝ }
+{
+    let m = maybe_at(t, p, u64::MAX, Name::Now);
+    let q = m.place;
+    if m.some {
+        return ClockHeld {
+            kept: JudgedAt::At(m.n),
+            place: q,
+        };
+    }
+    ClockHeld {
+        kept: JudgedAt::Never,
+        place: q,
+    }
+}
+
+// NOW, which may be missing
+pub fn clock_at(t: &[u8], p: Place) -> ClockHeld
+    ensures { λ r. ⌜ r ≡ clockAt (now (t .entry)) p ⌝ }
+{
+    match fields::next_field(t, p.at, p.sep) {
+        Field::At {
+            start: _,
+            end: _,
+            next: _,
+        } => clock_field(t, p),
+        Field::Stray => clock_field(t, p),
+        Field::End => ClockHeld {
+            kept: JudgedAt::Never,
+            place: p,
+        },
     }
 }

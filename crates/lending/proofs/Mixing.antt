@@ -25,7 +25,7 @@ use Rattle.receiver.specs.declared.Judged.{Judged}
 use Rattle.receiver.specs.declared.Judged.the-variants.{With, Never}
 use Rattle.rows.specs.declared.Row.{Row}
 use Rattle.rows.specs.Read.{rowIs, endsIs}
-use Rattle.flat.specs.Words.{wordOf, eight, keyWords, altitudeWords, siteWords, idWords, heardWords, lastWord}
+use Rattle.flat.specs.Words.{wordOf, eight, keyWords, altitudeWords, siteWords, idWords, clockId, heardWords, lastWord}
 use Rattle.lending.specs.Digests.{times, mixed, mixedAll, linkWord, distanceOf, verdictSix, rowWords, endsWords}
 
 -- 1099511628211 is 2^40 + 435: the low 24 bits shifted, and both halves times 435; what that leaves out is a multiple of 2^64
@@ -124,14 +124,16 @@ heard-mixed d h a b c n r ea en eb ec er =
     then h a r (siteWords (d .site)) (d .generation ∷ (idWords (d .even) ++ idWords (d .odd))) ea
     (then b c r (idWords (d .even)) (idWords (d .odd)) ec er ∙ ap (λ (k : ℕ). mixedAll k (idWords (d .even) ++ idWords (d .odd))) (eb ∙ ap (mixed a) en))
 
-pub row-mixed : (x : Row) (h a b c p n r : ℕ) → a ≡ mixedAll h (keyWords (x .key)) → b ≡ mixedAll a (heardWords (x .part .heard)) → c ≡ mixedAll b (verdictSix (x .part .verdict))
-    → p ≡ linkWord (x .prev) → n ≡ linkWord (x .next) → r ≡ mixedAll c (p ∷ n ∷ []) → r ≡ mixedAll h (rowWords (rowIs x))
+pub row-mixed : (x : Row) (h a b c d p n r : ℕ) (i : EpochId) → a ≡ mixedAll h (keyWords (x .key)) → b ≡ mixedAll a (heardWords (x .part .heard)) → c ≡ mixedAll b (verdictSix (x .part .verdict))
+    → p ≡ linkWord (x .prev) → n ≡ linkWord (x .next) → d ≡ mixedAll c (p ∷ n ∷ []) → i ≡ clockId (x .part .«judged_ms») → r ≡ mixedAll d (idWords i) → r ≡ mixedAll h (rowWords (rowIs x))
 unfolding rowWords
-row-mixed x h a b c p n r ea eb ec ep en er =
-    rw (← ep, ← en)
-    (then h a r (keyWords (x .key)) (heardWords (x .part .heard) ++ (verdictSix (x .part .verdict) ++ (p ∷ n ∷ []))) ea
-    (then a b r (heardWords (x .part .heard)) (verdictSix (x .part .verdict) ++ (p ∷ n ∷ [])) eb
-    (then b c r (verdictSix (x .part .verdict)) (p ∷ n ∷ []) ec er)))
+row-mixed x h a b c d p n r i ea eb ec ep en ed ei er =
+    let tail : List ℕ = p ∷ n ∷ idWords i in
+    rw (← ep, ← en, ← ei)
+    (then h a r (keyWords (x .key)) (heardWords (x .part .heard) ++ (verdictSix (x .part .verdict) ++ tail)) ea
+    (then a b r (heardWords (x .part .heard)) (verdictSix (x .part .verdict) ++ tail) eb
+    (then b c r (verdictSix (x .part .verdict)) tail ec
+    (then c d r (p ∷ n ∷ []) (idWords i) ed er))))
 
 pub ends-mixed : (ws : List ℕ) (h a b c r : ℕ) → a ≡ linkWord (getD ws 0 0) → b ≡ linkWord (getD ws 1 0) → c ≡ linkWord (getD ws 2 0) → r ≡ mixedAll h (a ∷ b ∷ c ∷ []) → r ≡ mixedAll h (endsWords (endsIs ws))
 ends-mixed ws h a b c r ea eb ec e = rw (← ea, ← eb, ← ec) e

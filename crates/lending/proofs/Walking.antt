@@ -77,8 +77,8 @@ all-mixed rs ys ws s n k a b c r en es ek ea eb ec er =
     ∙ ap (λ (h : ℕ). mixedAll h (endsWords (endsIs ws) ++ (rowsWords (map rowIs rs) ++ ys))) (ea ∙ ap (λ (h : ℕ). mixed h k) es ∙ ap (mixed firstHash) count)
 
 -- the first C rows are C rows
-pub rows-count : (c a : ℕ) (xs : List ℕ) → a ≡ 23 * c → 23 * c ≤ length xs → c ≡ length (rowsOf (take a xs))
+pub rows-count : (c a : ℕ) (xs : List ℕ) → a ≡ 25 * c → 25 * c ≤ length xs → c ≡ length (rowsOf (take a xs))
 rows-count c a xs e h =
-    let long : length (take a xs) ≡ 23 * c = length-take-le a xs (omega arith) ∙ e in
-    let even : length (take a xs) % 23 ≡ 0 = ap (λ (n : ℕ). n % 23) long ∙ mul-mod-right 23 c in
-    sym (mul-div-cancel-left c (omega arith)) ∙ ap (λ (n : ℕ). n / 23) (sym long) ∙ count-whole (take a xs) 23 wide-is even
+    let long : length (take a xs) ≡ 25 * c = length-take-le a xs (omega arith) ∙ e in
+    let even : length (take a xs) % 25 ≡ 0 = ap (λ (n : ℕ). n % 25) long ∙ mul-mod-right 25 c in
+    sym (mul-div-cancel-left c (omega arith)) ∙ ap (λ (n : ℕ). n / 25) (sym long) ∙ count-whole (take a xs) 25 wide-is even

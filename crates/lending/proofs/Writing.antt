@@ -28,13 +28,13 @@ use Rattle.lending.specs.declared.Changed.{Changed}
 use Rattle.lending.specs.Lendings.{Within, Room, rowsIn, RowsBecome, noEnds, lendable, lentSize, Lent, rowThere, RowSet, cellThere, CellSet, EndsSet, AppliedBy, Applied}
 
 -- THE FIRST ROWS: what they become stands in front of what lies behind them
-module _ (xs x1 : List ℕ) (a n : ℕ) (ea : a ≡ 23 * n) (w : 23 * n ≤ length xs) (l : length x1 ≡ length (take a xs)) where
-  long : length x1 ≡ 23 * n
-  long = l ∙ ap (λ (m : ℕ). length (take m xs)) ea ∙ length-take-le (23 * n) xs w
+module _ (xs x1 : List ℕ) (a n : ℕ) (ea : a ≡ 25 * n) (w : 25 * n ≤ length xs) (l : length x1 ≡ length (take a xs)) where
+  long : length x1 ≡ 25 * n
+  long = l ∙ ap (λ (m : ℕ). length (take m xs)) ea ∙ length-take-le (25 * n) xs w
 
   pub rows-become : (rs : List Row) → rowsOf x1 ≡ rs → RowsBecome n rs xs (x1 ++ drop a xs)
   rows-become rs h =
-      (ap rowsOf (take-at x1 (drop a xs) (23 * n) long) ∙ h, drop-at x1 (drop a xs) (23 * n) long ∙ ap (λ (m : ℕ). drop m xs) ea)
+      (ap rowsOf (take-at x1 (drop a xs) (25 * n) long) ∙ h, drop-at x1 (drop a xs) (25 * n) long ∙ ap (λ (m : ℕ). drop m xs) ea)
 
   pub row-becomes : (i : ℕ) (x : Row) → rowsOf x1 ≡ set (rowsOf (take a xs)) i x → RowsBecome n (set (rowsIn n xs) i x) xs (x1 ++ drop a xs)
   row-becomes i x h = rows-become (set (rowsIn n xs) i x) (h ∙ ap (λ (m : ℕ). set (rowsOf (take m xs)) i x) ea)
@@ -87,7 +87,7 @@ pub lend-fits : (c n : ℕ) (o : Outcome) → o ≡ lendable c n → o ≡ Done 
 unfolding lendable
 lend-fits c n o e f = lend-tests c n (leb c 64) (leb n 214016) refl refl (sym f ∙ e)
 
-pub rows-fit : (c n : ℕ) (o : Outcome) (xs : List ℕ) → o ≡ lendable c n → o ≡ Done → 1472 ≤ length xs → 23 * c ≤ length xs
+pub rows-fit : (c n : ℕ) (o : Outcome) (xs : List ℕ) → o ≡ lendable c n → o ≡ Done → 1600 ≤ length xs → 25 * c ≤ length xs
 rows-fit c n o xs e f h = let k = lend-fits c n o e f .0 in omega arith
 
 pub cells-fit : (c n : ℕ) (o : Outcome) (ys : List ℕ) → o ≡ lendable c n → o ≡ Done → 214016 ≤ length ys → n ≤ length ys

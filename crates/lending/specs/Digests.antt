@@ -12,7 +12,7 @@ use Rattle.receiver.specs.declared.Judged.{Judged}
 use Rattle.receiver.specs.declared.Judged.the-variants.{With, Never}
 use Rattle.receiver.specs.declared.WrongBy.{WrongBy}
 use Rattle.receiver.specs.declared.WrongBy.the-variants as By
-use Rattle.flat.specs.Words.{keyWords, heardWords, lastWord}
+use Rattle.flat.specs.Words.{keyWords, heardWords, idWords, clockId, lastWord}
 
 -- for each word w, h = (h xor w) × 1099511628211 mod 2^64
 unfoldable pub times : ℕ → ℕ
@@ -38,9 +38,9 @@ unfoldable pub verdictSix : Judged → List ℕ
 verdictSix (With v) = 1 ∷ lastWord (v .last) ∷ v .«wrong_run» ∷ v .«other_run» ∷ distanceOf (v .«wrong_by») ∷ cond (v .moved) 1 0 ∷ []
 verdictSix Never = 0 ∷ 0 ∷ 0 ∷ 0 ∷ 0 ∷ 0 ∷ []
 
--- the key as four little-endian words; site, generation, even id and odd id, each as in a lent row; verdict; before; after
+-- the key as four little-endian words; site, generation, even id and odd id, each as in a lent row; verdict; before; after; 0, 0 or 1, now_ms of the last judging
 unfoldable pub rowWords : T.Row Part → List ℕ
-rowWords r = keyWords (r .key) ++ (heardWords (r .part .heard) ++ (verdictSix (r .part .verdict) ++ (linkWord (r .prev) ∷ linkWord (r .next) ∷ [])))
+rowWords r = keyWords (r .key) ++ (heardWords (r .part .heard) ++ (verdictSix (r .part .verdict) ++ (linkWord (r .prev) ∷ linkWord (r .next) ∷ idWords (clockId (r .part .«judged_ms»)))))
 
 unfoldable pub rowsWords : List (T.Row Part) → List ℕ
 rowsWords [] = []

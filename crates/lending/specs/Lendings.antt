@@ -21,23 +21,23 @@ use Rattle.lending.specs.declared.Change.{Change}
 use Rattle.lending.specs.declared.Change.the-variants as change
 use Rattle.lending.specs.declared.Changed.{Changed}
 
--- the watch is the first 23 × C words of the rows, the first N cells, and the ends
+-- the watch is the first 25 × C words of the rows, the first N cells, and the ends
 abbrev pub Within : Size → List ℕ → List ℕ → Type 0
-Within z xs ys = (23 * z .rows ≤ length xs) × (z .cells ≤ length ys)
+Within z xs ys = (25 * z .rows ≤ length xs) × (z .cells ≤ length ys)
 
 abbrev pub rowsIn : ℕ → List ℕ → List Row
-rowsIn c xs = rowsOf (take (23 * c) xs)
+rowsIn c xs = rowsOf (take (25 * c) xs)
 
 abbrev pub lentTo : Size → List ℕ → List ℕ → List ℕ → Watch Part
 lentTo z xs ys ws = watchIs (rowsIn (z .rows) xs) (take (z .cells) ys) ws
 
 -- 64 rows and their cells are lent
 abbrev pub Room : List ℕ → List ℕ → Type 0
-Room xs ys = (1472 ≤ length xs) × (214016 ≤ length ys)
+Room xs ys = (1600 ≤ length xs) × (214016 ≤ length ys)
 
 -- what lies behind the rows stays
 abbrev pub RowsBecome : ℕ → List Row → List ℕ → List ℕ → Type 0
-RowsBecome c rs xs xs' = (rowsIn c xs' ≡ rs) × (drop (23 * c) xs' ≡ drop (23 * c) xs)
+RowsBecome c rs xs xs' = (rowsIn c xs' ≡ rs) × (drop (25 * c) xs' ≡ drop (25 * c) xs)
 
 -- lend C N: C rows as unmade (all links none), N cells of 65,280, ends none
 abbrev pub noEnds : List ℕ

@@ -152,7 +152,9 @@ fn mix_row(h: u64, row: Row) -> u64
     let verdict = part.verdict;
     let a = mix_heard(mix_key(h, key), heard);
     let b = mix_verdict(a, verdict);
-    mix_two(b, link_word(row.prev), link_word(row.next))
+    let c = mix_two(b, link_word(row.prev), link_word(row.next));
+    let kept = part.judged_ms;
+    mix_id(c, flat::clock_id(kept))
 }
 
 // ---- the watch
@@ -215,7 +217,7 @@ pub fn whole(z: Size, rows: &[u64], cells: &[u32], ends: &[u32; 3]) -> u64
     ensures { λ r. ⌜ r ≡ digestOf (lentTo z (now (rows .entry)) (now (cells .entry)) (now (ends .entry))) ⌝ }
 {
     let n = z.rows;
-    let a = 23 * (n as usize);
+    let a = 25 * (n as usize);
     let m = z.cells as usize;
     of_all(n, &rows[..a], &cells[..m], ends)
 }

@@ -75,10 +75,10 @@ fn unmake(rows: &mut [u64], n: u32)
 }
 
 fn unmake_first(rows: &mut [u64], n: u32)
-    requires { ⌜ 23 * n ≤ length (now rows) ⌝ }
+    requires { ⌜ 25 * n ≤ length (now rows) ⌝ }
     ensures { λ _. ⌜ RowsBecome n (replicate n blank) (now (rows .entry)) (now (rows .exit)) ⌝ }
 {
-    let a = 23 * (n as usize);
+    let a = 25 * (n as usize);
     unmake(&mut rows[..a], n);
 }
 
@@ -153,16 +153,16 @@ fn row_of(key: Key, part: Part, prev: u32, next: u32) -> Row
 }
 
 fn put_row(n: u32, rows: &mut [u64], at: u32, row: Row)
-    requires { ⌜ 23 * n ≤ length (now rows) ⌝ }
+    requires { ⌜ 25 * n ≤ length (now rows) ⌝ }
     ensures { λ _. ⌜ RowsBecome n (set (rowsIn n (now (rows .entry))) at row) (now (rows .entry)) (now (rows .exit)) ⌝ }
 {
-    let a = 23 * (n as usize);
+    let a = 25 * (n as usize);
     flat::put(&mut rows[..a], at, row);
 }
 
 // Row I of the C, whole.
 pub fn set_row(z: Size, rows: &mut [u64], at: u32, row: Row) -> Changed
-    requires { ⌜ 23 * z .rows ≤ length (now rows) ⌝ }
+    requires { ⌜ 25 * z .rows ≤ length (now rows) ⌝ }
     ensures { λ r. ⌜ RowSet z at row (now (rows .entry)) (now (rows .exit)) r ⌝ }
 {
     if at >= z.rows {

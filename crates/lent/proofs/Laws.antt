@@ -24,7 +24,7 @@ use Rattle.moves.specs.declared.Answer.{Answer}
 use Rattle.moves.specs.declared.Move.{Move}
 use Rattle.moves.specs.declared.Count.{Count}
 use Rattle.moves.specs.Answers.{saying, freeing}
-use Rattle.moves.specs.Moves.{staying, seatMove, ClaimedRow, by-look, judgedRow, judgedAs, judgedRows, removeMove, removedRows}
+use Rattle.moves.specs.Moves.{staying, seatMove, ClaimedRow, by-look, dueLook, judgedRow, judgedAs, judgedRows, removeMove, removedRows}
 use Rattle.moves.proofs.Entries.{judge-none, judge-kept, remove-none, remove-kept}
 use Rattle.lent.specs.Refusal.{isRefusal, Untouched}
 
@@ -66,19 +66,22 @@ claim-unfit xs e l k site m t p q d = by-look (sym p ∙ q) d refl
 pub heard-is : (xs : List Row) (i : ℕ) (r : Row) (h : Heard) → r ≡ getD xs i blank → h ≡ r .part .heard → h ≡ getD xs i blank .part .heard
 heard-is xs i r h e q = q ∙ ap (λ (x : Row). x .part .heard) e
 
--- JUDGING, TAKE-OUT, DROP-OLDEST: one part each of the ways out of crate `moves`
-module _ (l : Look) (j : Judgment) (t : Bool) (test : t ≡ isNo l) where
-  pub unjudged-answer : (r : Answer) → t ≡ true → r ≡ saying (Wd.Refused (numberOf l)) → r ≡ judgedAs l j
-  unjudged-answer r h a = judge-none [] l j r (sym test ∙ h) a .0
+pub due-is : (xs : List Row) (l d : Look) (i now : ℕ) (r : Row) → r ≡ getD xs i blank → d ≡ dueLook l (r .part .«judged_ms») now → d ≡ dueLook l (getD xs i blank .part .«judged_ms») now
+due-is xs l d i now r e q = q ∙ ap (λ (x : Row). dueLook l (x .part .«judged_ms») now) e
 
-  pub unjudged-rows : (xs : List Row) → t ≡ true → xs ≡ judgedRows xs l j
-  unjudged-rows xs h = judge-none xs l j (saying (Wd.Refused (numberOf l))) (sym test ∙ h) refl .1
+-- JUDGING, TAKE-OUT, DROP-OLDEST: one part each of the ways out of crate `moves`
+module _ (l : Look) (now : ℕ) (j : Judgment) (t : Bool) (test : t ≡ isNo l) where
+  pub unjudged-answer : (r : Answer) → t ≡ true → r ≡ saying (Wd.Refused (numberOf l)) → r ≡ judgedAs l j
+  unjudged-answer r h a = judge-none [] l now j r (sym test ∙ h) a .0
+
+  pub unjudged-rows : (xs : List Row) → t ≡ true → xs ≡ judgedRows xs l now j
+  unjudged-rows xs h = judge-none xs l now j (saying (Wd.Refused (numberOf l))) (sym test ∙ h) refl .1
 
   pub judged-answer : (r : Answer) → t ≡ false → r ≡ saying (Wd.Judged j) → r ≡ judgedAs l j
-  judged-answer r h a = judge-kept [] l j (atOf l) blank (judgedRow blank j) [] r (sym test ∙ h) refl refl refl refl a .0
+  judged-answer r h a = judge-kept [] l now j (atOf l) blank (judgedRow blank now j) [] r (sym test ∙ h) refl refl refl refl a .0
 
-  pub judged-rows : (xs : List Row) (i : ℕ) (row x : Row) (zs : List Row) → t ≡ false → i ≡ atOf l → row ≡ getD xs i blank → x ≡ judgedRow row j → zs ≡ set xs i x → zs ≡ judgedRows xs l j
-  judged-rows xs i row x zs h a b c d = judge-kept xs l j i row x zs (saying (Wd.Judged j)) (sym test ∙ h) a b c d refl .1
+  pub judged-rows : (xs : List Row) (i : ℕ) (row x : Row) (zs : List Row) → t ≡ false → i ≡ atOf l → row ≡ getD xs i blank → x ≡ judgedRow row now j → zs ≡ set xs i x → zs ≡ judgedRows xs l now j
+  judged-rows xs i row x zs h a b c d = judge-kept xs l now j i row x zs (saying (Wd.Judged j)) (sym test ∙ h) a b c d refl .1
 
 module _ (xs : List Row) (e : Ends) (l : Look) (t : Bool) (test : t ≡ isNo l) where
   pub unremoved-move : (m : Move) → t ≡ true → m ≡ staying e (saying (Wd.Refused (numberOf l))) → m ≡ removeMove xs e l

@@ -10,7 +10,7 @@ ghost use Rattle.rows.specs.Links.{blank};
 ghost use Rattle.rows.specs.Search.{isNo, isUnfit, atOf};
 ghost use Rattle.flat.specs.Table.{rowsOf, Left};
 ghost use Rattle.moves.specs.Answers.{answerIs, outcome};
-ghost use Rattle.moves.specs.Moves.{ClaimedRow, HeardRow, judgedAs, judgedRows, checkedAs, removeMove, removedRows};
+ghost use Rattle.moves.specs.Moves.{ClaimedRow, HeardRow, dueLook, judgedAs, judgedRows, checkedAs, removeMove, removedRows};
 ghost use Rattle.lent.specs.Refusal.{Untouched};
 use moves::Answer;
 use moves::Count;
@@ -90,6 +90,13 @@ pub fn drop_oldest(rows: &mut [u64], cells: &mut [u32], ends: &mut [u32; 3]) -> 
 
 // ---- judging
 
+// The row that was found, unless it is too soon to judge it.
+fn due_at(rows: &[u64], l: Look, now_ms: u64) -> Look
+    ensures { λ r. ⌜ r ≡ dueLook l (getD (rowsOf (now (rows .entry))) (atOf l) blank .part .«judged_ms») «now_ms» ⌝ }
+{
+    moves::due(l, chains::found(rows, l), now_ms)
+}
+
 // What was heard by the row that was found.
 fn heard_at(rows: &[u64], l: Look) -> Heard
     ensures { λ r. ⌜ r ≡ getD (rowsOf (now (rows .entry))) (atOf l) blank .part .heard ⌝ }
@@ -97,9 +104,9 @@ fn heard_at(rows: &[u64], l: Look) -> Heard
     moves::heard_in(chains::found(rows, l))
 }
 
-// The judgment is kept by the row that was found.
-fn judge_row(rows: &mut [u64], l: Look, j: Judgment) -> Answer
-    ensures { λ r. ⌜ (r ≡ judgedAs l j) × (rowsOf (now (rows .exit)) ≡ judgedRows (rowsOf (now (rows .entry))) l j) × Untouched r (now (rows .entry)) (now (rows .exit)) ⌝ }
+// The judgment and its clock are kept by the row that was found.
+fn judge_row(rows: &mut [u64], l: Look, now_ms: u64, j: Judgment) -> Answer
+    ensures { λ r. ⌜ (r ≡ judgedAs l j) × (rowsOf (now (rows .exit)) ≡ judgedRows (rowsOf (now (rows .entry))) l «now_ms» j) × Untouched r (now (rows .entry)) (now (rows .exit)) ⌝ }
 {
     let bad = rows::is_no(l);
     if bad {
@@ -107,7 +114,7 @@ fn judge_row(rows: &mut [u64], l: Look, j: Judgment) -> Answer
     }
     let i = rows::at_of(l);
     let row = flat::get(rows, i);
-    let judged = moves::judged_part(row, j);
+    let judged = moves::judged_part(row, now_ms, j);
     flat::put(rows, i, judged);
     moves::judged(j)
 }
@@ -125,9 +132,10 @@ pub fn judging(
 {
     let e = moves::ends_of(ends);
     let l = chains::look_up(rows, cells.len(), e, key);
-    let h = heard_at(rows, l);
-    let j = moves::judge_at(cells, l, h, now_ms, aircraft);
-    judge_row(rows, l, j)
+    let d = due_at(rows, l, now_ms);
+    let h = heard_at(rows, d);
+    let j = moves::judge_at(cells, d, h, now_ms, aircraft);
+    judge_row(rows, d, now_ms, j)
 }
 
 // ---- position

@@ -15,6 +15,8 @@ use Rattle.receiver.specs.declared.Part.{Part}
 use Rattle.receiver.specs.declared.Verdict.{Verdict}
 use Rattle.receiver.specs.declared.Judged.{Judged}
 use Rattle.receiver.specs.declared.Judged.the-variants.{With, Never}
+use Rattle.receiver.specs.declared.JudgedAt.{JudgedAt}
+use Rattle.receiver.specs.declared.JudgedAt.the-variants as Kept
 use Rattle.receiver.specs.declared.CheckState.{CheckState}
 use Rattle.receiver.specs.declared.Claiming.{Claiming}
 use Rattle.receiver.specs.declared.Hearing.{Hearing}
@@ -23,7 +25,7 @@ use Rattle.receiver.specs.declared.Counting.{Counting}
 use Rattle.receiver.specs.Answers.{HearingFits, CountingFits, countingIs, halfBefore}
 use Rattle.receiver.specs.Heard.{width, half, emptyCells}
 use Rattle.receiver.specs.Verdict.{runEnded, saysVerdict, judgedNext}
-use Rattle.receiver.specs.Calls.{judgingOf}
+use Rattle.receiver.specs.Calls.{judgingOf, tooSoon}
 use Rattle.judge.specs.Judging.{judgeOf}
 use Rattle.near_field.specs.declared.Judgment.{Judgment}
 use Rattle.near_field.specs.declared.Judgment.the-variants as Found
@@ -42,7 +44,7 @@ use Rattle.moves.specs.declared.Answer.{Answer}
 use Rattle.moves.specs.Answers.{saying, checkAnswer, hasMoved, heardOf, claimPart, claimAnswer, countedBy, hearPart, hearNo, isUnheard}
 use Rattle.moves.specs.declared.Move.{Move}
 use Rattle.moves.specs.declared.Count.{Count}
-use Rattle.moves.specs.Moves.{RoomAt, emptiedAt, staying, clearOf, seatMove, countedAt, judgedAt, judgedRow, oldestLook}
+use Rattle.moves.specs.Moves.{RoomAt, emptiedAt, staying, clearOf, seatMove, countedAt, dueLook, judgedAt, judgedRow, oldestLook}
 
 -- CELLS
 pub wide-is : width ≡ 3344
@@ -83,14 +85,14 @@ check-not j r e h = h ∙ sym (ap checkAnswer e)
 pub ends-run : (t : Bool) (v r : Judged) → t ≡ true → r ≡ runEnded v → r ≡ cond t (runEnded v) v
 ends-run t v r e h = rw e h
 
-pub claim-part-is : (p : Part) (c : Claiming) (h : Heard) (t : Bool) (v : Judged) → h ≡ heardOf c → t ≡ hasMoved c → v ≡ cond t (runEnded (p .verdict)) (p .verdict) → record { heard = h; verdict = v } ≡ claimPart p c
+pub claim-part-is : (p : Part) (c : Claiming) (h : Heard) (t : Bool) (v : Judged) → h ≡ heardOf c → t ≡ hasMoved c → v ≡ cond t (runEnded (p .verdict)) (p .verdict) → record { heard = h; verdict = v; «judged_ms» = p .«judged_ms» } ≡ claimPart p c
 claim-part-is p c h t v e f g = rw (e, g, f)
 
 pub claim-answers : (s : Seat) (c : Claiming) (h : Heard) → h ≡ heardOf c → record { word = Wd.Generation (h .generation); pushed = s .pushed; key = s .key } ≡ claimAnswer s c
 claim-answers s c h e = rw e
 
 -- POSITION
-pub hears-in : (p : Part) (h : Hearing) (c : Counting) (v : Judged) (x : Heard) → h ≡ Hearings.In c → x ≡ c .heard → v ≡ p .verdict → record { heard = x; verdict = v } ≡ hearPart p h
+pub hears-in : (p : Part) (h : Hearing) (c : Counting) (v : Judged) (x : Heard) → h ≡ Hearings.In c → x ≡ c .heard → v ≡ p .verdict → record { heard = x; verdict = v; «judged_ms» = p .«judged_ms» } ≡ hearPart p h
 hears-in p h c v x e f g = rw (e, f, g)
 
 pub hears-out : (p : Part) (h : Hearing) → h ≡ Hearings.Outside → p ≡ hearPart p h
@@ -143,8 +145,8 @@ judges h l i a z t n r e f q = q ∙ ap (λ (m : List ℕ). judgingOf h m t n) (
 pub judge-fits : (m : List ℕ) (i a z : ℕ) → a ≡ width * i → z ≡ width * i + width → length m ≡ z - a → length m ≡ 3344
 judge-fits m i a z e f n = omega (arith, e, f, n, wide-is)
 
-pub judged-is : (r w : Row) (j : Judgment) (v : Judged) → v ≡ judgedNext (r .part .verdict) j → w ≡ withPart r (record { heard = r .part .heard; verdict = v }) → w ≡ judgedRow r j
-judged-is r w j v e h = h ∙ ap (λ (x : Judged). withPart r (record { heard = r .part .heard; verdict = x })) e
+pub judged-is : (r w : Row) (now : ℕ) (j : Judgment) (v : Judged) → v ≡ judgedNext (r .part .verdict) j → w ≡ withPart r (record { heard = r .part .heard; verdict = v; «judged_ms» = Kept.At now }) → w ≡ judgedRow r now j
+judged-is r w now j v e h = h ∙ ap (λ (x : Judged). withPart r (record { heard = r .part .heard; verdict = x; «judged_ms» = Kept.At now })) e
 
 pub count-wide : (m : List ℕ) (i a z : ℕ) → a ≡ width * i → z ≡ width * i + width → length m ≡ z - a → length m ≡ width
 count-wide m i a z e f n = omega (arith, e, f, n)
@@ -179,6 +181,12 @@ empties-at ys zs l i e h = rw e h
 
 pub empties-none : (ys : List ℕ) (l : Look) (n : ℕ) → l ≡ L.No n → ys ≡ emptiedAt ys l
 empties-none ys l n e = rw e
+
+pub due-soon : (l : Look) (i : ℕ) (k : JudgedAt) (now : ℕ) (t : Bool) → l ≡ L.At i → t ≡ tooSoon k now → t ≡ true → L.No 9 ≡ dueLook l k now
+due-soon l i k now t e f g = rw (e, sym f ∙ g)
+
+pub due-yes : (l : Look) (i : ℕ) (k : JudgedAt) (now : ℕ) (t : Bool) → l ≡ L.At i → t ≡ tooSoon k now → t ≡ false → l ≡ dueLook l k now
+due-yes l i k now t e f g = rw (e, sym f ∙ g)
 
 pub judges-at : (l : Look) (i : ℕ) (h : Heard) (ys : List ℕ) (t n : ℕ) (r : Judgment) → l ≡ L.At i → r ≡ judgingOf h (take width (drop (width * i) ys)) t n → r ≡ judgedAt l h ys t n
 judges-at l i h ys t n r e q = rw e q

@@ -1,4 +1,5 @@
 pub mod Laws
 pub mod Looked
+pub mod Steps
 pub mod Entries
 pub mod Making

@@ -74,7 +74,7 @@ heardOf (Claimings.Stayed h) = h
 heardOf (Claimings.Moved h) = h
 
 abbrev pub claimPart : Part → Claiming → Part
-claimPart p c = record { heard = heardOf c; verdict = cond (hasMoved c) (runEnded (p .verdict)) (p .verdict) }
+claimPart p c = record { heard = heardOf c; verdict = cond (hasMoved c) (runEnded (p .verdict)) (p .verdict); «judged_ms» = p .«judged_ms» }
 
 abbrev pub claimAnswer : Seat → Claiming → Answer
 claimAnswer s c = record { word = Wd.Generation (heardOf c .generation); pushed = s .pushed; key = s .key }
@@ -96,7 +96,7 @@ abbrev pub hearPart : Part → Hearing → Part
 hearPart p Hearings.Outside = p
 hearPart p Hearings.Siteless = p
 hearPart p Hearings.Late = p
-hearPart p (Hearings.In c) = record { heard = c .heard; verdict = p .verdict }
+hearPart p (Hearings.In c) = record { heard = c .heard; verdict = p .verdict; «judged_ms» = p .«judged_ms» }
 
 abbrev pub countedBy : Hearing → List ℕ → List ℕ
 countedBy Hearings.Outside l = l

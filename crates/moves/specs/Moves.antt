@@ -13,13 +13,13 @@ use Rattle.near_field.specs.declared.Judgment.{Judgment}
 use Rattle.near_field.specs.declared.Judgment.the-variants as Found
 use Rattle.receiver.specs.declared.Heard.{Heard}
 use Rattle.receiver.specs.declared.Judged.{Judged}
+use Rattle.receiver.specs.declared.JudgedAt.{JudgedAt}
 use Rattle.receiver.specs.declared.Position.{Position}
 use Rattle.receiver.specs.declared.Claiming.{Claiming}
 use Rattle.receiver.specs.declared.Hearing.{Hearing}
 use Rattle.receiver.specs.Heard.{width, emptyCells, claimed, positioned}
-use Rattle.receiver.specs.Verdict.{judgedNext}
 use Rattle.receiver.specs.Answers.{claimingIs, hearingIs, HearingFits}
-use Rattle.receiver.specs.Calls.{judgingOf}
+use Rattle.receiver.specs.Calls.{judgingOf, tooSoon, judgedPart}
 use Rattle.rows.specs.declared.Key.{Key}
 use Rattle.rows.specs.declared.Row.{Row}
 use Rattle.rows.specs.declared.Ends.{Ends}
@@ -65,21 +65,25 @@ abbrev pub checkedAs : Look → Judged → Answer
 checkedAs (L.No n) v = saying (Wd.Refused n)
 checkedAs (L.At i) v = checkAnswer v
 
--- JUDGING
+-- JUDGING: the row that was found, unless it is too soon, which is 9
+abbrev pub dueLook : Look → JudgedAt → ℕ → Look
+dueLook (L.No n) kept now = L.No n
+dueLook (L.At i) kept now = cond (tooSoon kept now) (L.No 9) (L.At i)
+
 abbrev pub judgedAt : Look → Heard → List ℕ → ℕ → ℕ → Judgment
 judgedAt (L.No n) h l now aircraft = Found.Unjudged
 judgedAt (L.At i) h l now aircraft = judgingOf h (take width (drop (width * i) l)) now aircraft
 
-abbrev pub judgedRow : Row → Judgment → Row
-judgedRow r j = withPart r (record { heard = r .part .heard; verdict = judgedNext (r .part .verdict) j })
+abbrev pub judgedRow : Row → ℕ → Judgment → Row
+judgedRow r now j = withPart r (judgedPart (r .part) now j)
 
 abbrev pub judgedAs : Look → Judgment → Answer
 judgedAs (L.No n) j = saying (Wd.Refused n)
 judgedAs (L.At i) j = saying (Wd.Judged j)
 
-abbrev pub judgedRows : List Row → Look → Judgment → List Row
-judgedRows rows (L.No n) j = rows
-judgedRows rows (L.At i) j = set rows i (judgedRow (getD rows i blank) j)
+abbrev pub judgedRows : List Row → Look → ℕ → Judgment → List Row
+judgedRows rows (L.No n) now j = rows
+judgedRows rows (L.At i) now j = set rows i (judgedRow (getD rows i blank) now j)
 
 -- CLAIM: a row made for the key, or moved, gets empty cells
 abbrev pub clearOf : Seat → Claiming → Look

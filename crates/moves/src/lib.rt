@@ -14,13 +14,14 @@ ghost use Rattle.receiver.specs.Calls as calls;
 ghost use Rattle.rows.specs.Read.{endsIs, endsOf};
 ghost use Rattle.rows.specs.Search.{numberOf};
 ghost use Rattle.moves.specs.Answers.{noKey, saying, freeing, checkAnswer, isRefused, heardOf, hasMoved, claimPart, claimAnswer, isUnheard, hearNo, hearPart, countedBy};
-ghost use Rattle.moves.specs.Moves.{RoomAt, emptiedAt, staying, clearOf, seatMove, countedAt, judgedAt, judgedRow, oldestLook};
+ghost use Rattle.moves.specs.Moves.{RoomAt, emptiedAt, staying, clearOf, seatMove, countedAt, dueLook, judgedAt, judgedRow, oldestLook};
 use near_field::Judgment;
 use receiver::CheckState;
 use receiver::Claiming;
 use receiver::Heard;
 use receiver::Hearing;
 use receiver::Judged;
+use receiver::JudgedAt;
 use receiver::Part;
 use receiver::Position;
 use rows::Ends;
@@ -314,9 +315,11 @@ pub fn claim_part(row: Row, c: Claiming) -> Part
 {
     let part = row.part;
     let verdict = part.verdict;
+    let kept = part.judged_ms;
     Part {
         heard: heard_of(c),
         verdict: ended_if(has_moved(c), verdict),
+        judged_ms: kept,
     }
 }
 
@@ -401,12 +404,14 @@ pub fn hear_part(row: Row, h: Hearing) -> Part
 {
     let part = row.part;
     let verdict = part.verdict;
+    let judged_ms = part.judged_ms;
     match h {
         Hearing::In(c) => {
             let heard = c.heard;
             Part {
                 heard: heard,
                 verdict: verdict,
+                judged_ms: judged_ms,
             }
         }
         Hearing::Outside => part,
@@ -483,6 +488,19 @@ pub fn answered(c: Count) -> Answer
 
 // ---- judging
 
+// Asks 9: the row that was found, unless it is too soon to judge it.
+pub fn due(l: Look, row: Row, now_ms: u64) -> Look
+    ensures { λ r. ⌜ r ≡ dueLook l (row .part .«judged_ms») «now_ms» ⌝ }
+{
+    let part = row.part;
+    let kept = part.judged_ms;
+    let soon = receiver::run::too_soon(kept, now_ms);
+    match l {
+        Look::At(_) => { if soon { Look::No(9) } else { l } }
+        Look::No(_) => l,
+    }
+}
+
 pub fn heard_in(row: Row) -> Heard
     ensures { λ r. ⌜ r ≡ row .part .heard ⌝ }
 {
@@ -490,8 +508,8 @@ pub fn heard_in(row: Row) -> Heard
     part.heard
 }
 
-pub fn judged_part(row: Row, j: Judgment) -> Row
-    ensures { λ r. ⌜ r ≡ judgedRow row j ⌝ }
+pub fn judged_part(row: Row, now_ms: u64, j: Judgment) -> Row
+    ensures { λ r. ⌜ r ≡ judgedRow row «now_ms» j ⌝ }
 {
     let part = row.part;
     let heard = part.heard;
@@ -501,6 +519,7 @@ pub fn judged_part(row: Row, j: Judgment) -> Row
         Part {
             heard: heard,
             verdict: receiver::run::judged(verdict, j),
+            judged_ms: JudgedAt::At(now_ms),
         },
     )
 }

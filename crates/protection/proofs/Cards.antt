@@ -1,11 +1,13 @@
 -- A row alone answers as a card (`row-is-card`). The card's ten clauses are a machine (`card-step`), and the row that holds what a card holds, its verdict the one that the
 -- card's run leaves, does at each call what the card does (`acts-alike`).
 use mathlib.Core.Path.{_≡_, refl, ap, ap₂, _∙_}
+use Prim.Native.Nat.{ℕ}
 use mathlib.Core.Bool.{Bool, true, false, cond}
 use mathlib.Core.Option.{Option, none, some}
 use mathlib.Core.List.{List, [], _∷_}
 use Rattle.table.specs.Machine.{Key, enters, uses, looks, Outcome, refuse, accept, Machine, Answer, Step}
 use Rattle.table.specs.Watch.{Body, rowedMachine}
+use Rattle.table.proofs.Tests.{byBool}
 use Rattle.near_field.specs.declared.Judgment.{Judgment}
 use Rattle.near_field.specs.declared.Judgment.the-variants.{Unjudged, Fits, Wrong}
 use Rattle.receiver.specs.declared.Heard.{Heard}
@@ -15,9 +17,9 @@ use Rattle.receiver.specs.declared.Judged.{Judged}
 use Rattle.receiver.specs.declared.Judged.the-variants.{With, Never}
 use Rattle.receiver.specs.Verdict.{wrongly, otherwise, judgedOnce, goesOn}
 use Rattle.receiver.specs.Heard.{emptyCells, unheard, Moved, moved, stayed, claimed, positioned}
-use Rattle.receiver.specs.Calls.{Act, claim, position, judging, check, takeOut, Out, generationIs, judgmentIs, says, freed, done, kind, endedBy, claimDone, positionDone, judgingOf, judgingDone, checkDone, rowAct, siting}
+use Rattle.receiver.specs.Calls.{Act, claim, position, judging, check, takeOut, Out, generationIs, judgmentIs, says, freed, done, kind, endedBy, claimDone, positionDone, judgingOf, tooSoon, judgingDone, checkDone, rowAct, siting}
 use Rattle.protection.specs.Run.{Run, saysOf}
-use Rattle.protection.specs.Card.{Card, filled, noted, cardClaimed, cardPlaced, cardChecked, cardStep, cardAnswers, cardAfter}
+use Rattle.protection.specs.Card.{Card, filled, noted, cardClaimed, cardPlaced, judgedCard, cardJudged, cardChecked, cardStep, cardAnswers, cardAfter}
 use Rattle.protection.proofs.Alone.{settle, alone, answersAlone, aloneAfter}
 use Rattle.protection.proofs.Machines.{onState, answers-alike}
 use Rattle.protection.proofs.Counters.{verdictOf, says-agree}
@@ -25,11 +27,14 @@ use Rattle.protection.proofs.Counters.{verdictOf, says-agree}
 -- THE CARD AS A MACHINE
 abbrev claimOn : Card → Outcome (Body Heard) Moved → Outcome Card Out
 claimOn c (refuse n) = refuse n
-claimOn c (accept b v) = accept (record { heard = b .part; cells = b .cells; run = c .run; note = noted v (c .note) }) (generationIs (b .part .generation))
+claimOn c (accept b v) = accept (record { heard = b .part; cells = b .cells; run = c .run; note = noted v (c .note); «judged_ms» = c .«judged_ms» }) (generationIs (b .part .generation))
 
 abbrev placeOn : Card → Outcome (Body Heard) (Unit {0}) → Outcome Card Out
 placeOn c (refuse n) = refuse n
-placeOn c (accept b u) = accept (record { heard = b .part; cells = b .cells; run = c .run; note = c .note }) done
+placeOn c (accept b u) = accept (record { heard = b .part; cells = b .cells; run = c .run; note = c .note; «judged_ms» = c .«judged_ms» }) done
+
+abbrev judgeOn : Card → ℕ → Judgment → Outcome Card Out
+judgeOn c now j = cond (tooSoon (c .«judged_ms») now) (refuse 9) (accept (judgedCard c now j) (judgmentIs j))
 
 abbrev checkOn : Card → Run → Outcome Card Out
 checkOn c [] = refuse 7
@@ -38,7 +43,7 @@ checkOn c (j ∷ r) = accept c (says (saysOf j r))
 abbrev cardAct : Key → Card → Act → Outcome Card Out
 cardAct k c (claim x) = claimOn c (claimed (c .heard) (c .cells) x)
 cardAct k c (position p) = placeOn c (positioned (c .heard) (c .cells) p)
-cardAct k c (judging now aircraft) = let j = judgingOf (c .heard) (c .cells) now aircraft in accept (record { heard = c .heard; cells = c .cells; run = j ∷ cond (c .note) [] (c .run); note = false }) (judgmentIs j)
+cardAct k c (judging now aircraft) = judgeOn c now (judgingOf (c .heard) (c .cells) now aircraft)
 cardAct k c check = checkOn c (c .run)
 cardAct k c takeOut = accept c (freed k)
 
@@ -53,6 +58,9 @@ place-settles : (c : Card) (r : Outcome (Body Heard) (Unit {0})) → cardPlaced 
 place-settles c (refuse n) = refl
 place-settles c (accept b u) = refl
 
+judge-settles : (c : Card) (now : ℕ) (j : Judgment) → cardJudged c now j ≡ settle kind cardMachine looks (some c) (judgeOn c now j)
+judge-settles c now j = byBool (tooSoon (c .«judged_ms») now) (λ p. rw p) (λ p. rw p)
+
 check-settles : (c : Card) (r : Run) → cardChecked c r ≡ settle kind cardMachine looks (some c) (checkOn c r)
 check-settles c [] = refl
 check-settles c (j ∷ r) = refl
@@ -65,7 +73,7 @@ card-step k none check = refl
 card-step k none takeOut = refl
 card-step k (some c) (claim x) = claim-settles (some c) c (claimed (c .heard) (c .cells) x)
 card-step k (some c) (position p) = place-settles c (positioned (c .heard) (c .cells) p)
-card-step k (some c) (judging now aircraft) = refl
+card-step k (some c) (judging now aircraft) = judge-settles c now (judgingOf (c .heard) (c .cells) now aircraft)
 card-step k (some c) check = check-settles c (c .run)
 card-step k (some c) takeOut = refl
 
@@ -89,7 +97,7 @@ verdictAt [] b = Never
 verdictAt (j ∷ r) b = With (withMoved (verdictOf (j ∷ r)) b)
 
 abbrev rowOf : Card → Body Part
-rowOf c = record { part = record { heard = c .heard; verdict = verdictAt (c .run) (c .note) }; cells = c .cells }
+rowOf c = record { part = record { heard = c .heard; verdict = verdictAt (c .run) (c .note); «judged_ms» = c .«judged_ms» }; cells = c .cells }
 
 -- a judging leaves no move
 unmoved : (v : Verdict) (j : Judgment) → withMoved (judgedOnce v j) false ≡ judgedOnce v j
@@ -109,16 +117,16 @@ goes-on [] false = refl
 goes-on (j ∷ r) true = refl
 goes-on (j ∷ r) false = unmoved (verdictOf r) j
 
-claim-alike : (c : Card) (r : Outcome (Body Heard) Moved) → claimDone (verdictAt (c .run) (c .note)) r ≡ onState rowOf (claimOn c r)
+claim-alike : (c : Card) (r : Outcome (Body Heard) Moved) → claimDone (rowOf c .part) r ≡ onState rowOf (claimOn c r)
 claim-alike c (refuse n) = refl
 claim-alike c (accept b m) = rw (ended-at m (c .run) (c .note))
 
-place-alike : (c : Card) (r : Outcome (Body Heard) (Unit {0})) → positionDone (verdictAt (c .run) (c .note)) r ≡ onState rowOf (placeOn c r)
+place-alike : (c : Card) (r : Outcome (Body Heard) (Unit {0})) → positionDone (rowOf c .part) r ≡ onState rowOf (placeOn c r)
 place-alike c (refuse n) = refl
 place-alike c (accept b u) = refl
 
-judge-alike : (c : Card) (j : Judgment) → judgingDone (rowOf c) j ≡ onState rowOf (accept (record { heard = c .heard; cells = c .cells; run = j ∷ cond (c .note) [] (c .run); note = false }) (judgmentIs j))
-judge-alike c j = rw (goes-on (c .run) (c .note), unmoved (verdictOf (cond (c .note) [] (c .run))) j)
+judge-alike : (c : Card) (now : ℕ) (j : Judgment) → judgingDone (rowOf c) now j ≡ onState rowOf (judgeOn c now j)
+judge-alike c now j = byBool (tooSoon (c .«judged_ms») now) (λ p. rw p) (λ p. rw (p, goes-on (c .run) (c .note), unmoved (verdictOf (cond (c .note) [] (c .run))) j))
 
 check-alike : (s : Body Part) (c : Card) → s ≡ rowOf c → (r : Run) (b : Bool) → checkDone s (verdictAt r b) ≡ onState rowOf (checkOn c r)
 check-alike s c e [] b = refl
@@ -127,7 +135,7 @@ check-alike s c e (j ∷ r) b = rw (says-agree j r, e)
 acts-alike : (k : Key) (c : Card) (a : Act) → rowAct k (rowOf c) a ≡ onState rowOf (cardAct k c a)
 acts-alike k c (claim x) = claim-alike c (claimed (c .heard) (c .cells) x)
 acts-alike k c (position p) = place-alike c (positioned (c .heard) (c .cells) p)
-acts-alike k c (judging now aircraft) = judge-alike c (judgingOf (c .heard) (c .cells) now aircraft)
+acts-alike k c (judging now aircraft) = judge-alike c now (judgingOf (c .heard) (c .cells) now aircraft)
 acts-alike k c check = check-alike (rowOf c) c refl (c .run) (c .note)
 acts-alike k c takeOut = refl
 

@@ -1,6 +1,7 @@
--- Worked examples: P6, P7, P9, the readings' two runs, and that demand 3 is not empty. The site is at 0, 0 degrees.
+-- Worked examples: P6, P7, P9, the readings' two runs, Item 3 of 02, and that demand 3 is not empty. The site is at 0, 0 degrees.
 use mathlib.Core.Path.{_≡_, refl, sym, ap, _∙_, subst}
-use Prim.Native.Nat.{ℕ}
+use Prim.Native.Nat.{ℕ, _+_, _^_, _≤_, _<_}
+use native.Mathlib.Omega.{arith}
 use mathlib.Core.Bool.{true, false}
 use mathlib.Core.Option.{none, some}
 use mathlib.Core.List.{List, [], _∷_}
@@ -10,15 +11,18 @@ use lib.IntN.{pos}
 use Rattle.table.specs.Machine.{Key, Call, Answer, refused, said, Event, history}
 use Rattle.table.specs.Watch.{rowedMachine}
 use Rattle.table.proofs.Order.{tableStep}
+use Rattle.table.proofs.Tests.{ltb-yes}
 use Rattle.measures.specs.Degrees.{within}
 use Rattle.sites.specs.declared.Altitude.the-variants as Altitudes
-use Rattle.sites.specs.declared.Claimed.the-variants.{At}
+use Rattle.sites.specs.declared.Claimed.the-variants.{At, Nowhere}
 use Rattle.cells.specs.declared.Height.the-variants.{Unknown}
 use Rattle.near_field.specs.declared.Judgment.{Judgment}
 use Rattle.near_field.specs.declared.Judgment.the-variants.{Unjudged, Fits, Wrong}
 use Rattle.near_field.specs.declared.Evidence.the-variants.{Horizon}
+use Rattle.judge.specs.Judging.{judgeOf}
 use Rattle.receiver.specs.declared.CheckState.the-variants as Says
-use Rattle.receiver.specs.Calls.{Act, claim, position, check, Out, generationIs, done, says, kind, siting}
+use Rattle.receiver.specs.declared.JudgedAt.the-variants as Kept
+use Rattle.receiver.specs.Calls.{Act, claim, position, judging, check, takeOut, Out, generationIs, judgmentIs, freed, done, kind, siting, tooSoon}
 use Rattle.receiver.specs.Verdict.{wrongly, otherwise, saysVerdict}
 use Rattle.protection.specs.Marks.{callsOf, answersTo, Protected}
 use Rattle.protection.specs.Run.{held, saysOf}
@@ -85,6 +89,20 @@ at ms = position (record { lat = zero°; lon = zero°; feet = Unknown; address =
 pub p7 : cardAnswers a none (site ∷ at 0 ∷ at 86400000 ∷ at 43199999 ∷ at 43200000 ∷ []) ≡ (said none (generationIs 1) ∷ said none done ∷ said none done ∷ refused 6 ∷ said none done ∷ [])
 unfolding within
 p7 = refl
+
+-- Item 3 of 02, on a card: 3 before it is filled; then no judging is too soon. After one at 5, the next gets 9 up to 1,800,004, and is accepted at 1,800,005; a clock gone
+-- back gets 9, a move does not change that. What got 9 was not kept. Filled again after a take-out, no judging is too soon.
+abbrev unjudged : Answer Out
+unjudged = said none (judgmentIs Unjudged)
+
+pub item3 : cardAnswers a none (judging 5 0 ∷ claim Nowhere ∷ judging 5 0 ∷ judging 1800004 0 ∷ judging 1800005 0 ∷ judging 4 0 ∷ site ∷ judging 3600004 0 ∷ judging 3600005 0 ∷ takeOut ∷ claim Nowhere ∷ judging 0 0 ∷ [])
+    ≡ (refused 3 ∷ said none (generationIs 0) ∷ unjudged ∷ refused 9 ∷ unjudged ∷ refused 9 ∷ said none (generationIs 1) ∷ refused 9 ∷ unjudged ∷ said none (freed a) ∷ said none (generationIs 0) ∷ unjudged ∷ [])
+unfolding within judgeOf
+item3 = refl
+
+-- A kept number near 2^64 makes every judging too soon: the sum does not wrap.
+pub item3-top : (ms now : ℕ) → 2 ^ 64 ≤ ms + 1800000 → now < 2 ^ 64 → tooSoon (Kept.At ms) now ≡ true
+item3-top ms now h k = ltb-yes now (ms + 1800000) (omega arith)
 
 -- P9: C = 2: claim a (with a site), claim b, position a, claim c pushes out b.
 abbrev pub p9-calls : List (Call Act)

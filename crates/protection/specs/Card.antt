@@ -7,20 +7,24 @@ use Rattle.table.specs.Machine.{Key, Outcome, refuse, accept, Answer, refused, 
 use Rattle.table.specs.Watch.{Body}
 use Rattle.near_field.specs.declared.Judgment.{Judgment}
 use Rattle.receiver.specs.declared.Heard.{Heard}
+use Rattle.receiver.specs.declared.JudgedAt.{JudgedAt}
+use Rattle.receiver.specs.declared.JudgedAt.the-variants as Kept
 use Rattle.receiver.specs.Heard.{emptyCells, unheard, Moved, moved, stayed, claimed, positioned}
-use Rattle.receiver.specs.Calls.{Act, claim, position, judging, check, takeOut, Out, generationIs, judgmentIs, says, freed, done, judgingOf}
+use Rattle.receiver.specs.Calls.{Act, claim, position, judging, check, takeOut, Out, generationIs, judgmentIs, says, freed, done, judgingOf, tooSoon}
 use Rattle.protection.specs.Run.{Run, saysOf}
 
 -- Filled, it holds cells, a run of judgments, a note of a move or none, and a row's fields but key, links and verdict. A blank card is `none`.
+-- (02, Item 3) A card keeps now_ms.
 pub record Card : Type 0 where
   pub heard : Heard
   pub cells : List ℕ
   pub run : Run
   pub note : Bool
+  pub «judged_ms» : JudgedAt
 
 -- A blank card is first filled as a fresh row, its run empty and no move noted.
 abbrev pub filled : Card
-filled = record { heard = unheard; cells = emptyCells; run = []; note = false }
+filled = record { heard = unheard; cells = emptyCells; run = []; note = false; «judged_ms» = Kept.Never }
 
 abbrev pub noted : Moved → Bool → Bool
 noted moved b = true
@@ -36,16 +40,19 @@ answered c o = record { next = some c; answer = said none o }
 -- Claim: any card changes as under Claims, and if that is a move, it is noted.
 abbrev pub cardClaimed : Option Card → Card → Outcome (Body Heard) Moved → Step (Option Card) Out
 cardClaimed m c (refuse n) = left m n
-cardClaimed m c (accept b v) = answered (record { heard = b .part; cells = b .cells; run = c .run; note = noted v (c .note) }) (generationIs (b .part .generation))
+cardClaimed m c (accept b v) = answered (record { heard = b .part; cells = b .cells; run = c .run; note = noted v (c .note); «judged_ms» = c .«judged_ms» }) (generationIs (b .part .generation))
 
 -- Position: placed and counted as above.
 abbrev pub cardPlaced : Card → Outcome (Body Heard) (Unit {0}) → Step (Option Card) Out
 cardPlaced c (refuse n) = left (some c) n
-cardPlaced c (accept b u) = answered (record { heard = b .part; cells = b .cells; run = c .run; note = c .note }) done
+cardPlaced c (accept b u) = answered (record { heard = b .part; cells = b .cells; run = c .run; note = c .note; «judged_ms» = c .«judged_ms» }) done
 
--- Judging: a noted move empties the run and is struck; the judgment joins the run.
-abbrev pub cardJudged : Card → Judgment → Step (Option Card) Out
-cardJudged c j = answered (record { heard = c .heard; cells = c .cells; run = j ∷ cond (c .note) [] (c .run); note = false }) (judgmentIs j)
+-- Judging: a noted move empties the run and is struck; the judgment joins the run. (02, Item 3) A card keeps now_ms and asks 9 too.
+abbrev pub judgedCard : Card → ℕ → Judgment → Card
+judgedCard c now j = record { heard = c .heard; cells = c .cells; run = j ∷ cond (c .note) [] (c .run); note = false; «judged_ms» = Kept.At now }
+
+abbrev pub cardJudged : Card → ℕ → Judgment → Step (Option Card) Out
+cardJudged c now j = cond (tooSoon (c .«judged_ms») now) (left (some c) 9) (answered (judgedCard c now j) (judgmentIs j))
 
 -- Check: as above, over this run. 7 asks if its run holds a judgment.
 abbrev pub cardChecked : Card → Run → Step (Option Card) Out
@@ -61,7 +68,7 @@ cardStep k none check = left none 3
 cardStep k none takeOut = left none 3
 cardStep k (some c) (claim x) = cardClaimed (some c) c (claimed (c .heard) (c .cells) x)
 cardStep k (some c) (position p) = cardPlaced c (positioned (c .heard) (c .cells) p)
-cardStep k (some c) (judging now aircraft) = cardJudged c (judgingOf (c .heard) (c .cells) now aircraft)
+cardStep k (some c) (judging now aircraft) = cardJudged c now (judgingOf (c .heard) (c .cells) now aircraft)
 cardStep k (some c) check = cardChecked c (c .run)
 cardStep k (some c) takeOut = record { next = none; answer = said none (freed k) }
 

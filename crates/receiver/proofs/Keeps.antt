@@ -27,12 +27,14 @@ use Rattle.receiver.specs.declared.WrongBy.the-variants.{Km, Nothing}
 use Rattle.receiver.specs.declared.Verdict.{Verdict}
 use Rattle.receiver.specs.declared.Judged.{Judged}
 use Rattle.receiver.specs.declared.Judged.the-variants.{With, Never}
+use Rattle.receiver.specs.declared.JudgedAt.{JudgedAt}
+use Rattle.receiver.specs.declared.JudgedAt.the-variants as Kept
 use Rattle.receiver.specs.declared.Heard.{Heard}
 use Rattle.receiver.specs.declared.Position.{Position}
 use Rattle.receiver.specs.declared.Part.{Part}
 use Rattle.receiver.specs.Verdict.{up, isHeld, wrongly, otherwise, judgedOnce, goesOn, judgedNext, stepOf5, byFits, verdictFits}
 use Rattle.receiver.specs.Heard.{half, width, emptyCells, Moved, moved, stayed, claimedSite, claimedNone, claimed, epochOf, isEven, heldId, withId, notOlder, holdsId, startOf, emptied, countedAt, countedIn, onClaimed, positioned, siteFits}
-use Rattle.receiver.specs.Calls.{Act, claim, position, judging, check, takeOut, Out, endedBy, claimDone, positionDone, judgingOf, checkDone, rowAct, siting}
+use Rattle.receiver.specs.Calls.{Act, claim, position, judging, check, takeOut, Out, endedBy, claimDone, positionDone, judgingOf, tooSoon, judgingDone, checkDone, rowAct, siting}
 
 -- DISTANCES
 abbrev judgmentFits : Judgment → Bool
@@ -131,8 +133,8 @@ module _ (h : Heard) (l : List ℕ) (n : length l ≡ width) (r : Body Heard) wh
 abbrev Sound : Body Part → Type 0
 Sound s = Fine (siting .form) s
 
-sound : (h : Heard) (v : Judged) (l : List ℕ) → siteFits (h .site) ≡ true → verdictFits v ≡ true → length l ≡ width → Sound (record { part = record { heard = h; verdict = v }; cells = l })
-sound h v l p q n = record { soundPart = and-both (siteFits (h .site)) (verdictFits v) p q; wide = n }
+sound : (h : Heard) (v : Judged) (k : JudgedAt) (l : List ℕ) → siteFits (h .site) ≡ true → verdictFits v ≡ true → length l ≡ width → Sound (record { part = record { heard = h; verdict = v; «judged_ms» = k }; cells = l })
+sound h v k l p q n = record { soundPart = and-both (siteFits (h .site)) (verdictFits v) p q; wide = n }
 
 module _ (s : Body Part) (fine : Sound s) where
   site-fits : siteFits (s .part .heard .site) ≡ true
@@ -141,17 +143,23 @@ module _ (s : Body Part) (fine : Sound s) where
   verdict-fits : verdictFits (s .part .verdict) ≡ true
   verdict-fits = and-2 (siteFits (s .part .heard .site)) (verdictFits (s .part .verdict)) (fine .soundPart)
 
-  claim-keeps : (c : Claimed) (r : Outcome (Body Heard) Moved) → claimed (s .part .heard) (s .cells) c ≡ r → (s′ : Body Part) (o : Out) → claimDone (s .part .verdict) r ≡ accept s′ o → Sound s′
+  claim-keeps : (c : Claimed) (r : Outcome (Body Heard) Moved) → claimed (s .part .heard) (s .cells) c ≡ r → (s′ : Body Part) (o : Out) → claimDone (s .part) r ≡ accept s′ o → Sound s′
   claim-keeps c (refuse n) q s′ o e = was-refused Sound e
   claim-keeps c (accept b m) q s′ o e =
       let g = claim-good (s .part .heard) (s .cells) (fine .wide) b c m site-fits q in
-      was-accepted Sound e (sound (b .part) (endedBy m (s .part .verdict)) (b .cells) (g .0) (ended-fits m (s .part .verdict) verdict-fits) (g .1))
+      was-accepted Sound e (sound (b .part) (endedBy m (s .part .verdict)) (s .part .«judged_ms») (b .cells) (g .0) (ended-fits m (s .part .verdict) verdict-fits) (g .1))
 
-  position-keeps : (p : Position) (r : Outcome (Body Heard) (Unit {0})) → positioned (s .part .heard) (s .cells) p ≡ r → (s′ : Body Part) (o : Out) → positionDone (s .part .verdict) r ≡ accept s′ o → Sound s′
+  position-keeps : (p : Position) (r : Outcome (Body Heard) (Unit {0})) → positioned (s .part .heard) (s .cells) p ≡ r → (s′ : Body Part) (o : Out) → positionDone (s .part) r ≡ accept s′ o → Sound s′
   position-keeps p (refuse n) q s′ o e = was-refused Sound e
   position-keeps p (accept b m) q s′ o e =
       let g = position-good (s .part .heard) (s .cells) (fine .wide) b p m site-fits q in
-      was-accepted Sound e (sound (b .part) (s .part .verdict) (b .cells) (g .0) verdict-fits (g .1))
+      was-accepted Sound e (sound (b .part) (s .part .verdict) (s .part .«judged_ms») (b .cells) (g .0) verdict-fits (g .1))
+
+  judging-keeps : (now : ℕ) (j : Judgment) → judgmentFits j ≡ true → (s′ : Body Part) (o : Out) → judgingDone s now j ≡ accept s′ o → Sound s′
+  judging-keeps now j f s′ o e =
+      byBool (tooSoon (s .part .«judged_ms») now)
+      (λ p. was-refused Sound (rw p at e))
+      (λ p. was-accepted Sound (rw p at e) (sound (s .part .heard) (judgedNext (s .part .verdict) j) (Kept.At now) (s .cells) site-fits (once-fits (goesOn (s .part .verdict)) j (goes-fits (s .part .verdict) verdict-fits) f) (fine .wide)))
 
   check-keeps : (v : Judged) (s′ : Body Part) (o : Out) → checkDone s v ≡ accept s′ o → Sound s′
   check-keeps Never s′ o e = was-refused Sound e
@@ -160,10 +168,7 @@ module _ (s : Body Part) (fine : Sound s) where
 act-keeps : (k : Key) (s : Body Part) (a : Act) (s′ : Body Part) (o : Out) → rowAct k s a ≡ accept s′ o → Sound s → Sound s′
 act-keeps k s (claim c) s′ o e f = claim-keeps s f c (claimed (s .part .heard) (s .cells) c) refl s′ o e
 act-keeps k s (position p) s′ o e f = position-keeps s f p (positioned (s .part .heard) (s .cells) p) refl s′ o e
-act-keeps k s (judging now aircraft) s′ o e f =
-    let j = judgingOf (s .part .heard) (s .cells) now aircraft in
-    was-accepted Sound e (sound (s .part .heard) (judgedNext (s .part .verdict) j) (s .cells) (site-fits s f)
-    (once-fits (goesOn (s .part .verdict)) j (goes-fits (s .part .verdict) (verdict-fits s f)) (judging-fits (s .part .heard) (s .cells) now aircraft)) (f .wide))
+act-keeps k s (judging now aircraft) s′ o e f = judging-keeps s f now (judgingOf (s .part .heard) (s .cells) now aircraft) (judging-fits (s .part .heard) (s .cells) now aircraft) s′ o e
 act-keeps k s check s′ o e f = check-keeps s f (s .part .verdict) s′ o e
 act-keeps k s takeOut s′ o e f = was-accepted Sound e f
 

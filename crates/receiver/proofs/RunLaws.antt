@@ -1,11 +1,11 @@
 -- For the code of `run`: one law for each way out of a function, its premises as the code leaves them.
-use mathlib.Core.Path.{_≡_}
-use Prim.Native.Nat.{ℕ, _%_, _≤_, _<_}
+use mathlib.Core.Path.{_≡_, sym, _∙_}
+use Prim.Native.Nat.{ℕ, _+_, _-_, _%_, _≤_, _<_}
 use mathlib.Core.Logic.{_≢_}
 use native.Mathlib.Omega.{arith}
 use mathlib.Core.Bool.{Bool, true, false, cond, _||_}
-use lib.Dec.{leb}
-use Rattle.table.proofs.Tests.{eqb-yes, eqb-no, leb-yes, ltb-no}
+use lib.Dec.{leb, ltb}
+use Rattle.table.proofs.Tests.{byBool, eqb-yes, eqb-no, leb-yes, ltb-yes, ltb-true, ltb-false, ltb-no}
 use Rattle.near_field.specs.declared.Judgment.{Judgment}
 use Rattle.near_field.specs.declared.Judgment.the-variants as Found
 use Rattle.near_field.specs.declared.Evidence.{Evidence}
@@ -18,6 +18,9 @@ use Rattle.receiver.specs.declared.Judged.{Judged}
 use Rattle.receiver.specs.declared.Judged.the-variants.{With}
 use Rattle.receiver.specs.declared.CheckState.{CheckState}
 use Rattle.receiver.specs.declared.CheckState.the-variants as Says
+use Rattle.receiver.specs.declared.JudgedAt.{JudgedAt}
+use Rattle.receiver.specs.declared.JudgedAt.the-variants as Kept
+use Rattle.receiver.specs.Calls.{tooSoon}
 use Rattle.receiver.specs.Verdict.{up, isHeld, wrongly, otherwise, judgedOnce, goesOn, judgedNext, runEnded, plainly, saysBy, saysVerdict, stepOf5, byFits, verdictFits}
 
 -- the distance held by a Wrong, and kept by another judging
@@ -49,6 +52,16 @@ once-unjudged v r j p q = rw p q
 
 pub next-is : (v : Judged) (g r : Verdict) (j : Judgment) → g ≡ goesOn v → r ≡ judgedOnce g j → With r ≡ judgedNext v j
 next-is v g r j p q = rw (q, p)
+
+-- too soon: by the kept number alone if the clock has gone back, else by the time between, so that nothing wraps
+pub soon-back : (k : JudgedAt) (ms now : ℕ) → k ≡ Kept.At ms → now < ms → true ≡ tooSoon k now
+soon-back k ms now p h = rw p (sym (ltb-yes now _ (omega arith)))
+
+pub soon-on : (k : JudgedAt) (ms now : ℕ) (r : Bool) → k ≡ Kept.At ms → ms ≤ now → r ≡ ltb (now - ms) 1800000 → r ≡ tooSoon k now
+soon-on k ms now r p h e =
+    rw p (e ∙ byBool (ltb (now - ms) 1800000)
+    (λ t. t ∙ sym (ltb-yes now _ (omega (arith, ltb-true (now - ms) 1800000 t))))
+    (λ t. t ∙ sym (ltb-no now _ (omega (arith, ltb-false (now - ms) 1800000 t)))))
 
 -- a verdict by its cases
 pub ended-with : (v : Judged) (w : Verdict) → v ≡ With w → With (record { last = w .last; «wrong_run» = w .«wrong_run»; «other_run» = w .«other_run»; «wrong_by» = w .«wrong_by»; moved = true }) ≡ runEnded v

@@ -1,8 +1,9 @@
--- The seven calls of the siting watch (01, 'Seven calls, seven questions'): what each with a key does to its row's part and cells, and the calls on
--- any lent watch. Definitions only. A refusal has this paper's number; an accepted call's answer is `said` with the key pushed out or none.
-use Prim.Native.Nat.{ℕ}
-use mathlib.Core.Bool.{_&&_}
+-- The seven calls of the siting watch (01, 'Seven calls, seven questions'; 02, Item 3): what each with a key does to its row's part and cells, and the
+-- calls on any lent watch. Definitions only. A refusal has this paper's number; an accepted call's answer is `said` with the key pushed out or none.
+use Prim.Native.Nat.{ℕ, _+_}
+use mathlib.Core.Bool.{Bool, false, cond, _&&_}
 use mathlib.Core.List.{List}
+use lib.Dec.{ltb}
 use Rattle.table.specs.Machine.{Key, Kind, enters, uses, looks, leaves, Outcome, refuse, accept, Step}
 use Rattle.table.specs.Rows.{Watch}
 use Rattle.table.specs.Watch.{Body, Rowed, freshStep, watchStep, dropStep}
@@ -13,6 +14,8 @@ use Rattle.receiver.specs.declared.Heard.{Heard}
 use Rattle.receiver.specs.declared.Position.{Position}
 use Rattle.receiver.specs.declared.Judged.{Judged}
 use Rattle.receiver.specs.declared.Judged.the-variants.{With, Never}
+use Rattle.receiver.specs.declared.JudgedAt.{JudgedAt}
+use Rattle.receiver.specs.declared.JudgedAt.the-variants as Kept
 use Rattle.receiver.specs.declared.CheckState.{CheckState}
 use Rattle.receiver.specs.declared.Part.{Part}
 use Rattle.receiver.specs.Verdict.{judgedNext, runEnded, saysVerdict, verdictFits}
@@ -43,28 +46,38 @@ kind (judging now aircraft) = looks
 kind check = looks
 kind takeOut = leaves
 
--- a row's part: site, generation, ids (`heard`), verdict or none
+-- a row's part: site, generation, ids (`heard`), verdict or none, now_ms of its last accepted judging or none
 abbrev pub unmadePart : Part
-unmadePart = record { heard = unheard; verdict = Never }
+unmadePart = record { heard = unheard; verdict = Never; «judged_ms» = Kept.Never }
 
--- a move ends the verdict's run
+-- a move ends the verdict's run; it does not clear the clock
 abbrev pub endedBy : Moved → Judged → Judged
 endedBy moved v = runEnded v
 endedBy stayed v = v
 
-abbrev pub claimDone : Judged → Outcome (Body Heard) Moved → Outcome (Body Part) Out
-claimDone v (refuse n) = refuse n
-claimDone v (accept b m) = accept (record { part = record { heard = b .part; verdict = endedBy m v }; cells = b .cells }) (generationIs (b .part .generation))
+abbrev pub claimDone : Part → Outcome (Body Heard) Moved → Outcome (Body Part) Out
+claimDone p (refuse n) = refuse n
+claimDone p (accept b m) = accept (record { part = record { heard = b .part; verdict = endedBy m (p .verdict); «judged_ms» = p .«judged_ms» }; cells = b .cells }) (generationIs (b .part .generation))
 
-abbrev pub positionDone : Judged → Outcome (Body Heard) (Unit {0}) → Outcome (Body Part) Out
-positionDone v (refuse n) = refuse n
-positionDone v (accept b u) = accept (record { part = record { heard = b .part; verdict = v }; cells = b .cells }) done
+abbrev pub positionDone : Part → Outcome (Body Heard) (Unit {0}) → Outcome (Body Part) Out
+positionDone p (refuse n) = refuse n
+positionDone p (accept b u) = accept (record { part = record { heard = b .part; verdict = p .verdict; «judged_ms» = p .«judged_ms» }; cells = b .cells }) done
 
 abbrev pub judgingOf : Heard → List ℕ → ℕ → ℕ → Judgment
 judgingOf h l now aircraft = judgeOf (h .site) (h .even) (h .odd) l now aircraft
 
-abbrev pub judgingDone : Body Part → Judgment → Outcome (Body Part) Out
-judgingDone s j = accept (record { part = record { heard = s .part .heard; verdict = judgedNext (s .part .verdict) j }; cells = s .cells }) (judgmentIs j)
+-- (02, Item 3) The row keeps the now_ms of its last accepted judging.
+abbrev pub judgedPart : Part → ℕ → Judgment → Part
+judgedPart p now j = record { heard = p .heard; verdict = judgedNext (p .verdict) j; «judged_ms» = Kept.At now }
+
+-- A judging earlier than that plus 1,800,000 ms is turned down, a clock gone back included. Where none is kept, no judging is too soon.
+abbrev pub tooSoon : JudgedAt → ℕ → Bool
+tooSoon (Kept.At ms) now = ltb now (ms + 1800000)
+tooSoon Kept.Never now = false
+
+-- Refused: 9 when too soon, asked after question 3.
+abbrev pub judgingDone : Body Part → ℕ → Judgment → Outcome (Body Part) Out
+judgingDone s now j = cond (tooSoon (s .part .«judged_ms») now) (refuse 9) (accept (record { part = judgedPart (s .part) now j; cells = s .cells }) (judgmentIs j))
 
 -- 7: (check) Was the row judged since it was made?
 abbrev pub checkDone : Body Part → Judged → Outcome (Body Part) Out
@@ -73,9 +86,9 @@ checkDone s (With v) = accept s (says (saysVerdict v))
 
 -- what a call does to its key's row; a take-out's row is freed (`kind`)
 abbrev pub rowAct : Key → Body Part → Act → Outcome (Body Part) Out
-rowAct k s (claim c) = claimDone (s .part .verdict) (claimed (s .part .heard) (s .cells) c)
-rowAct k s (position p) = positionDone (s .part .verdict) (positioned (s .part .heard) (s .cells) p)
-rowAct k s (judging now aircraft) = judgingDone s (judgingOf (s .part .heard) (s .cells) now aircraft)
+rowAct k s (claim c) = claimDone (s .part) (claimed (s .part .heard) (s .cells) c)
+rowAct k s (position p) = positionDone (s .part) (positioned (s .part .heard) (s .cells) p)
+rowAct k s (judging now aircraft) = judgingDone s now (judgingOf (s .part .heard) (s .cells) now aircraft)
 rowAct k s check = checkDone s (s .part .verdict)
 rowAct k s takeOut = accept s (freed k)
 

@@ -51,6 +51,12 @@ pub enum Judged {
     Never,
 }
 
+// The now_ms of the last judging that was accepted since the row was made.
+pub enum JudgedAt {
+    At(u64),
+    Never,
+}
+
 // A site's state as said: with the distance, when it is held wrong.
 pub enum CheckState {
     Unjudged,
@@ -62,6 +68,7 @@ pub enum CheckState {
 pub struct Part {
     pub heard: Heard,
     pub verdict: Judged,
+    pub judged_ms: JudgedAt,
 }
 
 // What a claim comes to: refused (4), the same place, or a move.

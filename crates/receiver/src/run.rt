@@ -3,8 +3,10 @@ ghost use mathlib.Core.Path.{_≡_};
 ghost use mathlib.Core.Bool.{cond, _||_};
 ghost use lib.Dec.{leb};
 ghost use Rattle.receiver.specs.Verdict as verdict;
+ghost use Rattle.receiver.specs.Calls.{tooSoon};
 use super::CheckState;
 use super::Judged;
+use super::JudgedAt;
 use super::Last;
 use super::Verdict;
 use super::WrongBy;
@@ -120,6 +122,22 @@ pub fn judged(v: Judged, j: Judgment) -> Judged
     ensures { λ r. ⌜ r ≡ verdict.judgedNext v j ⌝ }
 {
     Judged::With(judged_once(goes_on(v), j))
+}
+
+// Earlier than half an hour after the judging that is kept (9). Nothing is added to the kept number, which may be any.
+pub fn too_soon(kept: JudgedAt, now_ms: u64) -> bool
+    ensures { λ r. ⌜ r ≡ tooSoon kept «now_ms» ⌝ }
+{
+    match kept {
+        JudgedAt::At(ms) => {
+            if now_ms < ms {
+                true
+            } else {
+                now_ms - ms < 1800000
+            }
+        }
+        JudgedAt::Never => false,
+    }
 }
 
 // A move has ended the run; check speaks of it until a new one begins.

@@ -11,6 +11,7 @@ ghost use Rattle.rows.specs.Links.{blank, unmade, withNext, withPrev, wi
 ghost use Rattle.rows.specs.Search.{sizesOf, backFits, firstFound, moreOf, stepOf, startOf, cameThrough, chainsOf, foundAt, lookOf, isNo, isUnfit, atOf, numberOf};
 use receiver::Heard;
 use receiver::Judged;
+use receiver::JudgedAt;
 use receiver::Part;
 use sites::Claimed;
 use view::EpochId;
@@ -45,6 +46,7 @@ impl Row {
                 odd: EpochId::Nothing,
             },
             verdict: Judged::Never,
+            judged_ms: JudgedAt::Never,
         },
         prev: 4294967295,
         next: 4294967295,

@@ -42,16 +42,16 @@ pub call-by : (c m : Call) (k : M.Key) (w : Watch Part) (s : Step (Watch Part) O
 call-by c m k w s e f = f ∙ sym (ap (λ (z : Call). callBy z k w) e)
 
 -- what the call leaves stands in front of what lies behind the watch
-pub called-in : (z : Size) (c : Call) (k : M.Key) (xs ys ws x1 y1 w1 : List ℕ) (r : Answer) (a m : ℕ) → a ≡ 23 * z .rows → m ≡ z .cells → Within z xs ys → length x1 ≡ length (take a xs) → length y1 ≡ length (take m ys)
+pub called-in : (z : Size) (c : Call) (k : M.Key) (xs ys ws x1 y1 w1 : List ℕ) (r : Answer) (a m : ℕ) → a ≡ 25 * z .rows → m ≡ z .cells → Within z xs ys → length x1 ≡ length (take a xs) → length y1 ≡ length (take m ys)
     → outcome r (rowsOf x1) y1 w1 ≡ callBy c k (watchIs (rowsOf (take a xs)) (take m ys) ws) → Called z c k xs ys ws (x1 ++ drop a xs) (y1 ++ drop m ys) w1 r
 called-in z c k xs ys ws x1 y1 w1 r a m ea em w lx ly h =
-    let nx : length x1 ≡ 23 * z .rows = lx ∙ ap (λ (n : ℕ). length (take n xs)) ea ∙ length-take-le (23 * z .rows) xs (w .0) in
+    let nx : length x1 ≡ 25 * z .rows = lx ∙ ap (λ (n : ℕ). length (take n xs)) ea ∙ length-take-le (25 * z .rows) xs (w .0) in
     let ny : length y1 ≡ z .cells = ly ∙ ap (λ (n : ℕ). length (take n ys)) em ∙ length-take-le (z .cells) ys (w .1) in
-    let px : take (23 * z .rows) (x1 ++ drop a xs) ≡ x1 = take-at x1 (drop a xs) (23 * z .rows) nx in
+    let px : take (25 * z .rows) (x1 ++ drop a xs) ≡ x1 = take-at x1 (drop a xs) (25 * z .rows) nx in
     let py : take (z .cells) (y1 ++ drop m ys) ≡ y1 = take-at y1 (drop m ys) (z .cells) ny in
     record {
       is = rw (px, py, ← ea, ← em) h;
-      rows-behind = drop-at x1 (drop a xs) (23 * z .rows) nx ∙ ap (λ (n : ℕ). drop n xs) ea;
+      rows-behind = drop-at x1 (drop a xs) (25 * z .rows) nx ∙ ap (λ (n : ℕ). drop n xs) ea;
       cells-behind = drop-at y1 (drop m ys) (z .cells) ny ∙ ap (λ (n : ℕ). drop n ys) em;
     }
 

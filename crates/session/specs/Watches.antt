@@ -47,8 +47,8 @@ callBy (call.Judging t n) k w = callOn w k (judging t n)
 
 -- a call comes to what its definition says of that watch, and what lies behind it stays
 pub record Called (z : Size) (c : Call) (k : M.Key) (xs ys ws xs' ys' ws' : List ℕ) (r : Answer) : Type 0 where
-  pub is : outcome r (rowsOf (take (23 * z .rows) xs')) (take (z .cells) ys') ws' ≡ callBy c k (lentTo z xs ys ws)
-  pub rows-behind : drop (23 * z .rows) xs' ≡ drop (23 * z .rows) xs
+  pub is : outcome r (rowsOf (take (25 * z .rows) xs')) (take (z .cells) ys') ws' ≡ callBy c k (lentTo z xs ys ws)
+  pub rows-behind : drop (25 * z .rows) xs' ≡ drop (25 * z .rows) xs
   pub cells-behind : drop (z .cells) ys' ≡ drop (z .cells) ys
 
 -- ---- what a line comes to

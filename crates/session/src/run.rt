@@ -1,4 +1,4 @@
-// The seven calls on the watch that is lent: the first 23 × C words of the rows, the first N cells, and the ends.
+// The seven calls on the watch that is lent: the first 25 × C words of the rows, the first N cells, and the ends.
 use grammar::Call;
 use lending::Size;
 use moves::Answer;
@@ -41,7 +41,7 @@ pub fn call_in(
     requires { ⌜ Within z (now rows) (now cells) ⌝ }
     ensures { λ r. ⌜ Called z asked (key .bytes) (now (rows .entry)) (now (cells .entry)) (now (ends .entry)) (now (rows .exit)) (now (cells .exit)) (now (ends .exit)) r ⌝ }
 {
-    let a = 23 * (z.rows as usize);
+    let a = 25 * (z.rows as usize);
     let m = z.cells as usize;
     by(&mut rows[..a], &mut cells[..m], ends, asked, key)
 }

@@ -20,20 +20,20 @@ uint16_t siting_place(double site_lat, double site_lon, double lat, double lon);
 /* What siting_place answers where a degree is not finite, a latitude not from −90 to 90, or a longitude not from −180 to 180. */
 #define SITING_NO_DEGREES 65535
 
-/* The seven calls over a watch that the caller lends: rows of 23 numbers each (rows_len is 23 times the receivers), 3,344 cells for each row, and the
+/* The seven calls over a watch that the caller lends: rows of 25 numbers each (rows_len is 25 times the receivers), 3,344 cells for each row, and the
    row numbers of the first used, the last used and the first free row (4294967295 for none). They need not be in order: what is no watch is refused
    with 1 or 2. A call answers in nine numbers:
      answer[0]  0 refused, 1 a generation (claim), 2 a judgment, 3 a state (check), 4 the key freed, 5 accepted (6 is siting_turn's, below)
-     answer[1]  the number of the question that was answered no; the generation; or 0 unjudged, 1 fits, 2 wrong
+     answer[1]  the number of the question that was answered no (9: a judging too soon, see judged_ms); the generation; or 0 unjudged, 1 fits, 2 wrong
      answer[2]  the distance in km, if wrong
      answer[3]  the evidence of a judgment: 1 horizon, 2 near field, 3 nothing near
      answer[4]  1 where a claim pushed a key out
      answer[5] to answer[8]  the key pushed out or freed, four little-endian words of eight bytes
    A refusal changes nothing that was lent but the answer. A tag (site, alt, has_feet) of 0 says that the number behind it is none. */
-#define SITING_ROW_WORDS 23
+#define SITING_ROW_WORDS 25
 #define SITING_ROW_CELLS 3344
 
-/* A row's 23 numbers by name, in their order: `rows` may be read as an array of these. A number whose name begins with has_ is 0 or 1 and says whether
+/* A row's 25 numbers by name, in their order: `rows` may be read as an array of these. A number whose name begins with has_ is 0 or 1 and says whether
    the numbers behind it are held (has_site: lat_bits to alt_m; has_verdict: last to moved); what is not held is 0. Any other number
    there, or one that is too wide, is refused with 2, in a free row too; an accepted call leaves none. */
 struct siting_row {
@@ -57,6 +57,8 @@ struct siting_row {
   uint64_t moved;       /* 1 where a move has ended the run */
   uint64_t before;      /* row numbers, 4294967295 for none */
   uint64_t after;
+  uint64_t has_judged_ms;
+  uint64_t judged_ms;   /* now_ms of the last accepted judging */
 };
 
 void siting_fresh(uint64_t *rows, size_t rows_len, uint32_t *cells, size_t cells_len, uint32_t ends[3], uint64_t answer[9]);

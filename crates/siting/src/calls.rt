@@ -1,4 +1,4 @@
-// The seven calls as C functions over lent memory: rows as 23 numbers each (crate `flat`), cells, three ends, a key as four numbers, and nine numbers
+// The seven calls as C functions over lent memory: rows as 25 numbers each (crate `flat`), cells, three ends, a key as four numbers, and nine numbers
 // for the answer (crate `replies`). Nothing is asked of any of them: what is no watch in order is refused, and a refusal changes nothing that was lent
 // but the answer.
 ghost use mathlib.Core.Path.{_≡_};

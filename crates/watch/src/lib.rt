@@ -9,7 +9,7 @@ ghost use Rattle.rows.specs.Read.{watchIs};
 ghost use Rattle.rows.specs.Links.{blank};
 ghost use Rattle.rows.specs.Search.{isNo, isUnfit, atOf};
 ghost use Rattle.moves.specs.Answers.{outcome};
-ghost use Rattle.moves.specs.Moves.{ClaimedRow, HeardRow, judgedAs, judgedRows, checkedAs, removeMove, removedRows};
+ghost use Rattle.moves.specs.Moves.{ClaimedRow, HeardRow, dueLook, judgedAs, judgedRows, checkedAs, removeMove, removedRows};
 use moves::Answer;
 use moves::Count;
 use moves::Move;
@@ -121,6 +121,13 @@ pub fn position(
 
 // ---- judging
 
+// The row that was found, unless it is too soon to judge it.
+fn due_at(rows: &[Row], l: Look, now_ms: u64) -> Look
+    ensures { λ r. ⌜ r ≡ dueLook l (getD (now (rows .entry)) (atOf l) blank .part .«judged_ms») «now_ms» ⌝ }
+{
+    moves::due(l, records::found(rows, l), now_ms)
+}
+
 // What was heard by the row that was found.
 fn heard_at(rows: &[Row], l: Look) -> Heard
     ensures { λ r. ⌜ r ≡ getD (now (rows .entry)) (atOf l) blank .part .heard ⌝ }
@@ -128,9 +135,9 @@ fn heard_at(rows: &[Row], l: Look) -> Heard
     moves::heard_in(records::found(rows, l))
 }
 
-// The judgment is kept by the row that was found.
-fn judge_row(rows: &mut [Row], l: Look, j: Judgment) -> Answer
-    ensures { λ r. ⌜ (r ≡ judgedAs l j) × (now (rows .exit) ≡ judgedRows (now (rows .entry)) l j) ⌝ }
+// The judgment and its clock are kept by the row that was found.
+fn judge_row(rows: &mut [Row], l: Look, now_ms: u64, j: Judgment) -> Answer
+    ensures { λ r. ⌜ (r ≡ judgedAs l j) × (now (rows .exit) ≡ judgedRows (now (rows .entry)) l «now_ms» j) ⌝ }
 {
     let bad = rows::is_no(l);
     if bad {
@@ -138,7 +145,7 @@ fn judge_row(rows: &mut [Row], l: Look, j: Judgment) -> Answer
     }
     let i = rows::at_of(l);
     let row = records::get(rows, i);
-    records::put(rows, i, moves::judged_part(row, j));
+    records::put(rows, i, moves::judged_part(row, now_ms, j));
     moves::judged(j)
 }
 
@@ -155,8 +162,9 @@ pub fn judging(
 {
     let e = moves::ends_of(ends);
     let l = records::look_up(rows, cells.len(), e, key);
-    let j = moves::judge_at(cells, l, heard_at(rows, l), now_ms, aircraft);
-    judge_row(rows, l, j)
+    let d = due_at(rows, l, now_ms);
+    let j = moves::judge_at(cells, d, heard_at(rows, d), now_ms, aircraft);
+    judge_row(rows, d, now_ms, j)
 }
 
 // ---- check

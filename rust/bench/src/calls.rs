@@ -4,9 +4,10 @@
 
 use std::cell::RefCell;
 use std::hint::black_box;
+use std::mem::offset_of;
 
 use oracle::{Claim, Key, Relay};
-use siting::{Position, Site, Watch, raw, words_of};
+use siting::{Position, ROW_WORDS, Row, Site, Watch, raw, words_of};
 
 use crate::Bench;
 
@@ -124,6 +125,15 @@ impl Held {
         })
     }
 
+    /// Clears the clock of the asked row's last judging, so that each judging is accepted and looks
+    /// at the same halves.
+    fn unjudge(&self, watch: &RefCell<Watch>) {
+        let mut watch = watch.borrow_mut();
+        let row = watch.rows.len() / ROW_WORDS / 2;
+        let clock = ROW_WORDS * row + offset_of!(Row, has_judged_ms) / size_of::<u64>();
+        watch.rows[clock..clock + 2].fill(0);
+    }
+
     /// One plain pass over all numbers of the rows: a sum.
     fn pass(&self) -> Box<dyn FnMut() + '_> {
         self.crates(|watch| {
@@ -183,9 +193,17 @@ fn steady(held: &Held) -> Vec<Named<'_>> {
         held.rusts(move |relay| told(relay, key, &p).expect("held")),
         held.pass(),
     ];
+    let mut by_crate = held.crates(move |watch| watch.judging(&key, AT_MS, 20).expect("held"));
+    let mut by_c: Box<dyn FnMut()> = c!(held, answer, siting_judging(&words, AT_MS, 20));
     let judging: Sides = vec![
-        held.crates(move |watch| watch.judging(&key, AT_MS, 20).expect("held")),
-        c!(held, answer, siting_judging(&words, AT_MS, 20)),
+        Box::new(move || {
+            held.unjudge(&held.watch);
+            by_crate();
+        }),
+        Box::new(move || {
+            held.unjudge(&held.lent);
+            by_c();
+        }),
         held.rusts(move |relay| judged(relay, key)),
         held.pass(),
     ];

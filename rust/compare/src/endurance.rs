@@ -124,7 +124,8 @@ impl Trial {
             },
             19..24 => Call::Judging {
                 key,
-                now_ms: time(rng, self.clock),
+                // Often far enough behind the last one, so that some are accepted.
+                now_ms: time(rng, self.clock).saturating_add(rng.pick(&[0, 0, 1_800_000])),
                 aircraft: rng.pick(&[14, 15, 40, u64::MAX]),
             },
             24..29 => Call::Check(key),
@@ -144,13 +145,13 @@ impl Trial {
                 let end = rng.below(3);
                 let old = now.ends[end];
                 let any = rng.next() as u32;
-                let new = rng.pick(&[0, 1, u32::MAX, words as u32 / 23, any]);
+                let new = rng.pick(&[0, 1, u32::MAX, (words / ROW_WORDS) as u32, any]);
                 self.table.0.set(|watch| watch.ends[end] = new);
                 Spoiled::End(end, old)
             }
             1 => {
                 let any = (rng.below(words + 1), rng.below(cells + 1));
-                let rows = rng.pick(&[0, 22, 23, words - 1, any.0, words]);
+                let rows = rng.pick(&[0, ROW_WORDS - 1, ROW_WORDS, words - 1, any.0, words]);
                 let lent = rng.pick(&[0, 3_344, cells - 1, any.1, cells]);
                 self.table.0.cut(rows, lent);
                 Spoiled::Size(words, cells)
@@ -205,7 +206,8 @@ struct Seen {
     calls: u64,
     watches: u64,
     accepted: u64,
-    refused: [u64; 8],
+    /// By the number of the question.
+    refused: [u64; 10],
     /// Calls on more than 64 rows, and on more than 1,024.
     wide: [u64; 2],
     failures: Failures,
@@ -226,7 +228,7 @@ impl Seen {
             self.sum.word(u64::from(byte));
         }
         match answer {
-            Answer::No(number) => self.refused[usize::from(number) % 8] += 1,
+            Answer::No(number) => self.refused[usize::from(number)] += 1,
             _ => self.accepted += 1,
         }
         matches!(answer, Answer::No(_))
@@ -262,7 +264,7 @@ pub fn check(seed: u64, calls: u64, seconds: u64) -> Outcome {
         calls: 0,
         watches: 0,
         accepted: 0,
-        refused: [0; 8],
+        refused: [0; 10],
         wide: [0; 2],
         failures: Failures::default(),
         sum: Checksum(0xCBF2_9CE4_8422_2325),
@@ -285,7 +287,8 @@ pub fn check(seed: u64, calls: u64, seconds: u64) -> Outcome {
         seen.accepted,
         progress.seconds()
     );
-    let counts: Vec<String> = (1..8)
+    let counts: Vec<String> = (1..seen.refused.len())
+        .filter(|at| seen.refused[*at] > 0)
         .map(|at| format!("{at}: {}", seen.refused[at]))
         .collect();
     println!(

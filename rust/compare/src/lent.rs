@@ -45,6 +45,7 @@ fn closed(row: &Row) -> siting::Row {
         (flat.has_off, flat.off_km) = held(run.off_km.map(u64::from));
         flat.moved = u64::from(run.moved);
     }
+    (flat.has_judged_ms, flat.judged_ms) = held(row.judged_ms);
     flat
 }
 
@@ -65,6 +66,7 @@ fn opened(flat: &siting::Row) -> Row {
             off_km: (flat.has_off == 1).then_some(flat.off_km as u32),
             moved: flat.moved == 1,
         }),
+        judged_ms: flat.judged_ms(),
         before: unlink(flat.before),
         after: unlink(flat.after),
     }

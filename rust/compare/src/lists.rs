@@ -98,8 +98,7 @@ pub fn unasked(rows: usize) -> Result<Option<String>, String> {
 }
 
 /// A line of each kind that says something of a watch.
-const EVERY_LINE: &str =
-    "watch 1\nfresh\ndigest\nlend 1 3344\nrow 0 1 - 0 - - - - -\ncell 0 65280\nends - - 0\nfresh\n";
+const EVERY_LINE: &str = "watch 1\nfresh\ndigest\nlend 1 3344\nrow 0 1 - 0 - - - - - -\ncell 0 65280\nends - - 0\nfresh\n";
 
 /// Makes one list; its text and the answers wanted.
 pub fn made(seed: u64, name: &str, maker: Maker, log: &mut Log) -> (String, Wants) {

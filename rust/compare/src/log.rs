@@ -24,6 +24,7 @@ const REACHED: [(&str, &[&str]); 7] = [
             "no 1",
             "no 2",
             "no 3",
+            "no 9",
         ],
     ),
     (

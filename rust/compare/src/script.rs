@@ -1,7 +1,7 @@
 //! A list of calls as it is made: each call is made on the original's parts joined and on the
 //! document's whole numbers, and kept with its answer for our program.
 
-use std::collections::BTreeSet;
+use std::collections::{BTreeMap, BTreeSet};
 
 use oracle::{CELLS, HALF, Key, Number, Original, Relay, Seen};
 use siting::list::short;
@@ -10,7 +10,7 @@ use crate::excuses::Kind;
 use crate::log::Log;
 use crate::report::hex;
 use crate::sphere::{excused, in_range};
-use crate::watch::{Answer, Call, Watch};
+use crate::watch::{Answer, Call, Watch, too_soon};
 use crate::{model, same, text, ticks};
 
 /// The answers wanted, each with its line.
@@ -31,6 +31,8 @@ pub struct Script<'a> {
     pub watch: Watch,
     /// The original; none for a watch that it cannot hold.
     relay: Option<Relay>,
+    /// The clock of each key's last accepted judging, by which 9 is asked beside the original.
+    clocks: BTreeMap<Key, u64>,
     /// Whether every judging came in rounds of all rows.
     rounds: bool,
     pub text: String,
@@ -56,17 +58,25 @@ fn shown(seen: &Seen) -> String {
     format!("{key} {number:?} {site:?} generation {generation} ids {ids:?} {run:?}")
 }
 
-/// The original's answer. Question 4 is the document's, and put here.
-fn theirs(relay: &mut Relay, rows: usize, call: &Call, judged: Option<Number>) -> Answer {
+/// The original's answer. Questions 4 and 9 are the documents', and put here.
+fn theirs(
+    relay: &mut Relay,
+    clocks: &mut BTreeMap<Key, u64>,
+    rows: usize,
+    call: &Call,
+    judged: Option<Number>,
+) -> Answer {
     let no = |asked: Result<Answer, u8>| asked.unwrap_or_else(Answer::No);
     match *call {
         Call::Fresh => {
             *relay = Relay::new(rows);
+            clocks.clear();
             Answer::Done
         }
         Call::Claim(_, Some(site)) if !in_range(site.at) => Answer::No(4),
         Call::Claim(key, site) => {
             let (generation, pushed) = relay.claim(key, site);
+            pushed.map(|key| clocks.remove(&key));
             Answer::Claimed(generation, pushed)
         }
         Call::Position { key, at, .. } if !in_range(at) => {
@@ -81,16 +91,24 @@ fn theirs(relay: &mut Relay, rows: usize, call: &Call, judged: Option<Number>) -
         } => no(relay
             .position(key, at, feet, address, at_ms)
             .map(|()| Answer::Done)),
-        Call::Judging { key, .. } => match judged {
+        Call::Judging { key, now_ms, .. } => match judged {
+            Some(_) if too_soon(clocks.get(&key).copied(), now_ms) => Answer::No(9),
             Some(number) => {
                 relay.judged(key, number);
+                clocks.insert(key, now_ms);
                 Answer::Judged(number)
             }
             None => Answer::No(3),
         },
         Call::Check(key) => no(relay.check(key).map(Answer::Checked)),
-        Call::TakeOut(key) => no(relay.take_out(key).map(Answer::Freed)),
-        Call::Drop => no(relay.drop_oldest().map(Answer::Freed)),
+        Call::TakeOut(_) | Call::Drop => no(match *call {
+            Call::TakeOut(key) => relay.take_out(key),
+            _ => relay.drop_oldest(),
+        }
+        .map(|key| {
+            clocks.remove(&key);
+            Answer::Freed(key)
+        })),
     }
 }
 
@@ -100,6 +118,7 @@ impl<'a> Script<'a> {
         Self {
             watch: Watch::fresh(rows),
             relay: oracle::FOUND.then(|| Relay::new(rows)),
+            clocks: BTreeMap::new(),
             rounds: true,
             text: format!("watch {rows}\n"),
             lines: 1,
@@ -203,6 +222,12 @@ impl<'a> Script<'a> {
         self.watch = watch;
         self.rounds = false;
         self.relay = self.taken_over();
+        let rows = &self.watch.rows;
+        let used = self.watch.order().map_or(vec![], |order| order.used);
+        let held = used
+            .iter()
+            .map(|row| (rows[*row].key, rows[*row].judged_ms));
+        self.clocks = held.filter_map(|(key, ms)| Some((key, ms?))).collect();
         self.look();
     }
 
@@ -322,7 +347,8 @@ impl<'a> Script<'a> {
             let judged = matches!(call, Call::Judging { .. })
                 .then_some(known)
                 .flatten();
-            let theirs = theirs(relay, self.watch.rows.len(), &call, judged);
+            let rows = self.watch.rows.len();
+            let theirs = theirs(relay, &mut self.clocks, rows, &call, judged);
             if theirs != want {
                 let (line, want, theirs) = (call.line(), want.line(), theirs.line());
                 self.failed(&format!(

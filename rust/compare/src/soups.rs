@@ -249,10 +249,12 @@ impl Soup {
 
     /// A judging of a key.
     fn judging(&self, rng: &mut Rng, key: Key) -> Call {
-        let now_ms = match rng.below(12) {
+        // One that is ahead leaves those behind it too soon.
+        let now_ms = match rng.below(48) {
             0 => self.clock.saturating_add(EPOCH_MS),
-            1 => self.clock.saturating_sub(EPOCH_MS),
-            2 => self.clock.saturating_add(2 * EPOCH_MS),
+            1 => self.clock.saturating_add(2 * EPOCH_MS),
+            2..5 => self.clock.saturating_sub(EPOCH_MS),
+            5..8 => self.clock.saturating_sub(rng.next() % HALF_HOUR),
             _ => self.clock,
         };
         let aircraft = match rng.below(12) {
@@ -267,11 +269,12 @@ impl Soup {
         }
     }
 
-    /// Any call; the clock goes on a little, now and then by hours.
+    /// Any call; the clock goes on a little, often by half an hour, now and then by hours.
     fn any(&mut self, rng: &mut Rng, script: &mut Script) {
         self.clock = match rng.below(64) {
             0 => self.clock.saturating_add(rng.next() % EPOCH_MS),
             1 => self.clock.saturating_sub(rng.next() % (2 * EPOCH_MS)),
+            2..8 => self.clock.saturating_add(HALF_HOUR),
             _ => self.clock.saturating_add(rng.next() % 20_000),
         };
         let key = if rng.one_in(40) {
@@ -444,7 +447,8 @@ fn flood<'a>(rng: &mut Rng, log: &'a mut Log) -> Script<'a> {
         if rng.one_in(40) {
             script.call(Call::TakeOut(receiver));
         }
-        soup.clock += rng.next() % 900_000;
+        let step = rng.pick(&[900_000, 2 * HALF_HOUR]);
+        soup.clock += rng.next() % step;
         look(rng, &mut script, if rows >= 64 { 20 } else { 8 });
     }
     script
@@ -477,20 +481,35 @@ fn clocks<'a>(rng: &mut Rng, log: &'a mut Log) -> Script<'a> {
             script.call(call);
             look(rng, &mut script, 40);
         }
-        if rng.one_in(3) {
-            script.call(Call::Fresh);
+        // A clock near 2^64 leaves every judging too soon until the row is made anew.
+        match rng.below(3) {
+            0 => drop(script.call(Call::Fresh)),
+            1 => {
+                for key in soup.keys.clone() {
+                    script.call(Call::TakeOut(key));
+                }
+            }
+            _ => {}
         }
     }
     script
 }
 
-/// Judgings in a row: the number of aircraft, or a time at which nothing is kept, makes an
-/// Unjudged of any row.
+/// A key hears so many positions.
+fn hears(rng: &mut Rng, script: &mut Script, soup: &Soup, key: Key, times: i64) {
+    for _ in 0..times {
+        let call = soup.position(rng, script, key, soup.clock);
+        script.call(call);
+    }
+}
+
+/// Judgings in a row, half an hour apart as a rule, some too soon: the number of aircraft, or a
+/// time at which nothing is kept, makes an Unjudged of any row.
 fn runs<'a>(rng: &mut Rng, log: &'a mut Log) -> Script<'a> {
     let rows = rng.int(1, 3) as usize;
     let mut script = Script::new(rows, log);
     let mut soup = Soup::new(rng, rows);
-    let clock = soup.clock;
+    let mut scenes = Vec::new();
     for key in soup.keys.clone() {
         // Wrong or fitting as a rule.
         let middle = (rng.within(60.0), rng.within(179.0));
@@ -503,35 +522,45 @@ fn runs<'a>(rng: &mut Rng, log: &'a mut Log) -> Script<'a> {
             4 => Scene::Low,
             _ => scene(rng),
         };
-        for _ in 0..rng.int(80, 300) {
-            let call = soup.position(rng, &script, key, clock);
-            script.call(call);
-        }
+        scenes.push(soup.scene);
+        let times = rng.int(80, 300);
+        hears(rng, &mut script, &soup, key, times);
         // One place until its count stops.
         if rng.one_in(3) {
-            let call = soup.position(rng, &script, key, clock);
+            let call = soup.position(rng, &script, key, soup.clock);
             for _ in 0..rng.int(250, 260) {
                 script.call(call);
             }
         }
     }
     script.look();
+    let mut heard = soup.clock;
     let end = script.calls() + script.log.length;
     while script.calls() < end {
-        let key = rng.pick(&soup.keys);
+        let of = rng.below(rows);
+        let key = soup.keys[of];
         let long = rng.one_in(12);
         let times = if long {
-            rng.int(250, 300)
+            rng.int(285, 330)
         } else {
             rng.int(1, 5)
         };
-        let (now_ms, aircraft) = rng.pick(&[
-            (clock, 40),
-            (clock, 40),
-            (clock, 14),
-            (clock + 3 * EPOCH_MS, 40),
-        ]);
+        let (gap, aircraft) = rng.pick(&[(0, 40), (0, 40), (0, 14), (3 * EPOCH_MS, 40)]);
+        soup.clock += gap;
         for _ in 0..times {
+            // What was heard is kept for an epoch at least.
+            if gap == 0 && soup.clock - heard > EPOCH_MS {
+                heard = soup.clock;
+                soup.scene = scenes[of];
+                hears(rng, &mut script, &soup, key, 80);
+            }
+            let back = rng.pick(&[0, 1, 300_000, HALF_HOUR]);
+            let now_ms = if rng.one_in(12) {
+                soup.clock - back
+            } else {
+                soup.clock += HALF_HOUR;
+                soup.clock
+            };
             script.call(Call::Judging {
                 key,
                 now_ms,
@@ -547,7 +576,7 @@ fn runs<'a>(rng: &mut Rng, log: &'a mut Log) -> Script<'a> {
             script.call(Call::Check(key));
         }
         if rng.one_in(3) {
-            let call = soup.position(rng, &script, key, clock);
+            let call = soup.position(rng, &script, key, soup.clock);
             script.call(call);
         }
         look(rng, &mut script, 6);
@@ -589,6 +618,7 @@ fn moves<'a>(rng: &mut Rng, log: &'a mut Log) -> Script<'a> {
             let call = soup.judging(rng, key);
             script.call(call);
             script.call(Call::Check(key));
+            soup.clock += rng.pick(&[0, HALF_HOUR, HALF_HOUR]);
         }
         if rng.one_in(4) {
             script.call(Call::Check(key));
@@ -624,6 +654,13 @@ fn any_row(rng: &mut Rng, key: Key) -> Row {
             Some(any),
         ])
     };
+    // The kept clock: any, and those near 2^64 that leave every judging too soon.
+    let judged_ms = match rng.below(8) {
+        0..4 => None,
+        4 => Some(rng.next()),
+        5 => Some(rng.pick(&[0, 1, 40_000 * EPOCH_MS])),
+        _ => Some(u64::MAX - rng.pick(&[0, 1, HALF_HOUR - 1, HALF_HOUR, HALF_HOUR + 1])),
+    };
     Row {
         key,
         site: (!rng.one_in(5)).then(|| Claim {
@@ -633,6 +670,7 @@ fn any_row(rng: &mut Rng, key: Key) -> Row {
         generation: rng.pick(&[0, 1, 77, u32::MAX, u32::MAX - 1]),
         ids: [id(rng), id(rng)],
         run: any_run(rng),
+        judged_ms,
         before: None,
         after: None,
     }
@@ -695,6 +733,10 @@ fn good(rng: &mut Rng, rows: usize) -> (Watch, Vec<(Key, u64, u64)>) {
             let case = Case::new(rng, maker);
             watch.cells[CELLS * at..][..CELLS].copy_from_slice(&case.cells[..]);
             watch.rows[at].ids = case.held.ids;
+            if !rng.one_in(3) {
+                let ago = rng.pick(&[0, HALF_HOUR - 1, HALF_HOUR, EPOCH_MS]);
+                watch.rows[at].judged_ms = case.now_ms.checked_sub(ago);
+            }
             times.push((key, case.now_ms, case.aircraft));
         } else {
             for _ in 0..rng.below(30) {
@@ -716,15 +758,17 @@ fn lent<'a>(rng: &mut Rng, log: &'a mut Log) -> Script<'a> {
         soup.keys.extend(watch.rows.iter().map(|row| row.key));
         script.lend(watch);
         for (key, now_ms, aircraft) in times {
+            soup.clock = now_ms;
             for _ in 0..rng.int(1, 5) {
                 script.call(Call::Judging {
                     key,
-                    now_ms,
+                    now_ms: soup.clock,
                     aircraft,
                 });
                 script.call(Call::Check(key));
+                let step = rng.pick(&[1, HALF_HOUR - 1, HALF_HOUR, HALF_HOUR]);
+                soup.clock = soup.clock.saturating_add(step);
             }
-            soup.clock = now_ms;
         }
         script.look();
         for _ in 0..rng.int(10, 60) {

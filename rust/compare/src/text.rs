@@ -31,7 +31,9 @@ fn or_dash<T: ToString>(value: Option<T>) -> String {
 const BY: [&str; 4] = ["", "horizon", "nearfield", "nothingnear"];
 
 /// The refusals.
-const NO: [&str; 8] = ["", "no 1", "no 2", "no 3", "no 4", "no 5", "no 6", "no 7"];
+const NO: [&str; 10] = [
+    "", "no 1", "no 2", "no 3", "no 4", "no 5", "no 6", "no 7", "no 8", "no 9",
+];
 
 impl Call {
     /// The call's word.
@@ -105,7 +107,7 @@ impl Answer {
             Self::Judged(1) | Self::Checked(State::Fits) => "fits",
             Self::Judged(number) => BY[*number as usize % 4],
             Self::Checked(State::Wrong(_)) => "wrong",
-            Self::No(number) => NO[usize::from(*number) % 8],
+            Self::No(number) => NO[usize::from(*number) % NO.len()],
         }
     }
 
@@ -170,7 +172,7 @@ pub fn lend(watch: &Watch) -> String {
         });
         let _ = writeln!(
             text,
-            "row {at} {} {} {} {} {} {} {} {}",
+            "row {at} {} {} {} {} {} {} {} {} {}",
             short(&row.key),
             or_dash(site),
             row.generation,
@@ -178,7 +180,8 @@ pub fn lend(watch: &Watch) -> String {
             or_dash(row.ids[1]),
             or_dash(run),
             or_dash(row.before),
-            or_dash(row.after)
+            or_dash(row.after),
+            or_dash(row.judged_ms)
         );
     }
     for (at, word) in watch.cells.iter().enumerate() {
@@ -251,6 +254,7 @@ fn fields(f: &mut Fields) -> Result<Line, String> {
                 run: f.read("VERDICT", run)?,
                 before: f.maybe("BEFORE")?,
                 after: f.maybe("AFTER")?,
+                judged_ms: f.last("NOW")?,
             };
             return Ok(Line::Row(at, row));
         }

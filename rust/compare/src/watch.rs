@@ -20,6 +20,8 @@ pub struct Row {
     /// The ids of the even and of the odd half.
     pub ids: [Option<u64>; 2],
     pub run: Option<Run>,
+    /// The clock of the last accepted judging.
+    pub judged_ms: Option<u64>,
     pub before: Link,
     pub after: Link,
 }
@@ -32,6 +34,7 @@ impl Row {
         generation: 0,
         ids: [None; 2],
         run: None,
+        judged_ms: None,
         before: None,
         after: None,
     };
@@ -81,6 +84,11 @@ pub enum Answer {
     Freed(Key),
     /// The number of the question that was answered "no".
     No(u8),
+}
+
+/// Whether a judging is earlier than half an hour after the last one, a clock gone back included.
+pub fn too_soon(kept: Option<u64>, now_ms: u64) -> bool {
+    kept.is_some_and(|kept| u128::from(now_ms) < u128::from(kept) + 1_800_000)
 }
 
 /// The row numbers in the used chain, oldest first, and in the free chain.
@@ -331,10 +339,14 @@ impl Watch {
                 aircraft,
             } => {
                 let row = order.used[find(key).ok_or(3)?];
+                if too_soon(self.rows[row].judged_ms, *now_ms) {
+                    return Err(9);
+                }
                 let number = known.unwrap_or_else(|| {
                     model::judge(self.cells_of(row), &self.held(row), *now_ms, *aircraft).number
                 });
                 self.judged(row, number);
+                self.rows[row].judged_ms = Some(*now_ms);
                 Answer::Judged(number)
             }
             Call::Check(key) => {
@@ -388,6 +400,7 @@ impl Watch {
                 [1, last, wrongs, others, off, u64::from(run.moved)]
             }));
             put(&[row.before, row.after].map(link));
+            put(&row.judged_ms.map_or([0; 2], |ms| [1, ms]));
         }
         for word in &self.cells {
             put(&[u64::from(*word)]);
@@ -466,6 +479,36 @@ mod tests {
         // Nobody looks at a free row's back link.
         good.rows[3].before = Some(77);
         assert!(good.order().is_some());
+    }
+
+    /// Item 3: half an hour behind the last judging and not before; a refused one is not kept; a
+    /// move keeps the clock, a row made anew does not.
+    #[test]
+    fn a_judging_too_soon_is_refused() {
+        let mut watch = Watch::fresh(1);
+        watch.answer(&Call::Claim(key(1), None), None);
+        let mut at = |now_ms| {
+            let judging = Call::Judging {
+                key: key(1),
+                now_ms,
+                aircraft: 0,
+            };
+            watch.answer(&judging, None) == Answer::Judged(0)
+        };
+        assert!(at(5_000));
+        assert!(!at(1_804_999) && !at(0));
+        assert!(at(1_805_000));
+        let site = Claim {
+            at: (51.5, -0.25),
+            alt_m: None,
+        };
+        watch.answer(&Call::Claim(key(1), Some(site)), None);
+        assert_eq!(watch.rows[0].judged_ms, Some(1_805_000));
+        assert!(too_soon(Some(u64::MAX - 1_799_999), u64::MAX));
+        assert!(!too_soon(Some(u64::MAX - 1_800_000), u64::MAX));
+        assert!(!too_soon(None, 0));
+        watch.answer(&Call::TakeOut(key(1)), None);
+        assert_eq!(watch.rows[0].judged_ms, None);
     }
 
     /// A row that is taken from the free chain is fresh, whatever lay there.

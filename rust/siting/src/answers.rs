@@ -174,11 +174,14 @@ pub enum Refusal {
     NeverJudged,
     /// 8: a tick asks for no row or for more than there are, or its list holds too few keys.
     Turn,
+    /// 9: it is less than half an hour since the receiver was last judged, or the clock has gone
+    /// back. Asked of a judging, behind 3.
+    TooSoon,
 }
 
 impl Refusal {
     /// All of them, by their numbers.
-    pub const ALL: [Self; 8] = [
+    pub const ALL: [Self; 9] = [
         Self::Sizes,
         Self::NotInOrder,
         Self::NotHeld,
@@ -187,17 +190,18 @@ impl Refusal {
         Self::TooOld,
         Self::NeverJudged,
         Self::Turn,
+        Self::TooSoon,
     ];
 
     /// The refusal that a C function's answer says.
     pub(crate) fn of(number: u64) -> Self {
-        let at = (number as usize).wrapping_sub(1);
-        *Self::ALL
-            .get(at)
+        Self::ALL
+            .into_iter()
+            .find(|refusal| u64::from(refusal.number()) == number)
             .unwrap_or_else(|| unreachable!("the contract has no refusal {number}"))
     }
 
-    /// The question's number: 1 to 7 in the scope document, 8 in the requests after it.
+    /// The question's number: 1 to 7 in the scope document, 8 and 9 in the requests after it.
     pub fn number(self) -> u8 {
         self as u8
     }
@@ -216,6 +220,7 @@ impl fmt::Display for Refusal {
             Self::Turn => {
                 "a tick names from 1 to all rows, and its list holds as many keys at least"
             }
+            Self::TooSoon => "it is less than half an hour since the receiver was last judged",
         };
         write!(f, "{sentence} (refusal {})", self.number())
     }
@@ -230,13 +235,13 @@ mod tests {
     /// Each refusal comes back from its number.
     #[test]
     fn refusals_have_the_papers_numbers() {
-        for (at, refusal) in Refusal::ALL.into_iter().enumerate() {
-            assert_eq!(usize::from(refusal.number()), at + 1);
-            assert_eq!(Refusal::of(at as u64 + 1), refusal);
+        for (number, refusal) in [1, 2, 3, 4, 5, 6, 7, 9].into_iter().zip(Refusal::ALL) {
+            assert_eq!(refusal.number(), number);
+            assert_eq!(Refusal::of(u64::from(number)), refusal);
             assert!(
                 refusal
                     .to_string()
-                    .ends_with(&format!("(refusal {})", at + 1))
+                    .ends_with(&format!("(refusal {number})"))
             );
         }
     }

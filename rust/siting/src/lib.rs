@@ -3,7 +3,7 @@
 //! A receiver claims a site; the relay tells each position that it hears, judges it each half hour
 //! by what it heard, and asks whether its site is held wrong. [`Watch`] has the seven calls and the
 //! turn keeper ([`Watch::turn`]: whose turn it is in the half-hour round) with memory of its own,
-//! [`Lent`] the same calls over memory that the caller owns, [`Refusal`] the eight reasons for
+//! [`Lent`] the same calls over memory that the caller owns, [`Refusal`] the nine reasons for
 //! which nothing was done.
 //!
 //! ```

@@ -110,6 +110,14 @@ impl<'a> Fields<'a> {
         self.read("KEY", key)
     }
 
+    /// A number or a dash that may be missing, which is none.
+    pub fn last<T: FromStr>(&mut self, name: &str) -> Result<Option<T>, String> {
+        if self.0.clone().next().is_none() {
+            return Ok(None);
+        }
+        self.maybe(name)
+    }
+
     /// LAT LON ALT, or a dash for no site.
     fn site(&mut self) -> Result<Option<Site>, String> {
         let lat = self.text("LAT")?;

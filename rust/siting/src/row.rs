@@ -3,12 +3,12 @@
 use crate::{Key, Site};
 
 /// The numbers of one row.
-pub const ROW_WORDS: usize = 23;
+pub const ROW_WORDS: usize = 25;
 
 /// A link or an end that is none.
 pub const NONE: u32 = u32::MAX;
 
-/// A row as the calls write it: 23 numbers of 64 bits in this order, the `struct siting_row` of
+/// A row as the calls write it: 25 numbers of 64 bits in this order, the `struct siting_row` of
 /// `siting.h`. A number that begins with `has_` is 0 or 1 and says whether the number behind it is
 /// held; what is not held is 0. Question 2 refuses a row with any other number there, a free one
 /// too, and an accepted call leaves none.
@@ -68,6 +68,10 @@ pub struct Row {
     pub before: u64,
     /// The row used after it, or the next free one, or [`NONE`].
     pub after: u64,
+    /// 1 where a judging was accepted since the row was made.
+    pub has_judged_ms: u64,
+    /// The clock of the last accepted judging, milliseconds since 1970.
+    pub judged_ms: u64,
 }
 
 // A row is its numbers and nothing else, so that a slice of either is one of the other.
@@ -75,10 +79,10 @@ const _: () = assert!(size_of::<Row>() == size_of::<[u64; ROW_WORDS]>());
 const _: () = assert!(align_of::<Row>() == align_of::<u64>());
 
 impl Row {
-    /// The rows that these numbers are; fewer than 23 left over are no row.
+    /// The rows that these numbers are; fewer than 25 left over are no row.
     pub fn all(words: &[u64]) -> &[Self] {
         let (rows, _) = words.as_chunks::<ROW_WORDS>();
-        // SAFETY: a row is 23 numbers of 64 bits without gaps (asserted above, `repr(C)`), any
+        // SAFETY: a row is 25 numbers of 64 bits without gaps (asserted above, `repr(C)`), any
         // bits are a number, and the borrow is the same.
         unsafe { std::slice::from_raw_parts(rows.as_ptr().cast(), rows.len()) }
     }
@@ -109,6 +113,11 @@ impl Row {
             (self.has_even == 1).then_some(self.even_id),
             (self.has_odd == 1).then_some(self.odd_id),
         ]
+    }
+
+    /// The clock of the last accepted judging, if there was one since the row was made.
+    pub fn judged_ms(&self) -> Option<u64> {
+        (self.has_judged_ms == 1).then_some(self.judged_ms)
     }
 }
 
@@ -149,11 +158,11 @@ mod tests {
     /// Numbers that are no whole row are left out.
     #[test]
     fn rows_are_whole() {
-        assert_eq!(Row::all(&[0; 22]).len(), 0);
-        let words: Vec<u64> = (0..47).collect();
+        assert_eq!(Row::all(&[0; ROW_WORDS - 1]).len(), 0);
+        let words: Vec<u64> = (0..51).collect();
         let rows = Row::all(&words);
         assert_eq!(rows.len(), 2);
-        assert_eq!((rows[1].key[0], rows[1].after), (23, 45));
-        assert_eq!(rows[1].words()[..], words[23..46]);
+        assert_eq!((rows[1].key[0], rows[1].judged_ms), (25, 49));
+        assert_eq!(rows[1].words()[..], words[25..50]);
     }
 }

@@ -157,10 +157,11 @@ impl<'a> Lent<'a> {
         .map(|_| ())
     }
 
-    /// The receiver's site is judged by what it heard, at this time and with so many aircraft.
+    /// The receiver's site is judged by what it heard, at this time and with so many aircraft; not
+    /// before half an hour has passed since it was last judged.
     ///
     /// ```
-    /// # use siting::{Evidence, Judgment, Position, Site, Watch};
+    /// # use siting::{Evidence, Judgment, Position, Refusal, Site, Watch};
     /// let mut watch = Watch::new(1)?;
     /// let site = Site { lat: 51.4775, lon: -0.4614, alt_m: None };
     /// watch.claim(&[1; 32], Some(site))?;
@@ -171,7 +172,9 @@ impl<'a> Lent<'a> {
     /// }
     /// let wrong = Judgment::Wrong { off_km: 125, by: Evidence::NothingNear };
     /// assert_eq!(watch.judging(&[1; 32], 0, 15)?, wrong);
-    /// assert_eq!(watch.judging(&[1; 32], 0, 14)?, Judgment::Unjudged);
+    /// // Half an hour must pass before the next.
+    /// assert_eq!(watch.judging(&[1; 32], 1_799_999, 15), Err(Refusal::TooSoon));
+    /// assert_eq!(watch.judging(&[1; 32], 1_800_000, 14)?, Judgment::Unjudged);
     /// # Ok::<(), siting::Refusal>(())
     /// ```
     pub fn judging(&mut self, of: &Key, now_ms: u64, aircraft: u64) -> Result<Judgment, Refusal> {
@@ -266,7 +269,7 @@ pub struct Watch {
 
 impl Watch {
     /// A fresh watch with room for so many receivers, 1 to [`MOST_ROWS`]; else
-    /// [`Refusal::Sizes`]. A row takes 13,560 bytes, so 4,096 take 55.5 MB.
+    /// [`Refusal::Sizes`]. A row takes 13,576 bytes, so 4,096 take 55.5 MB.
     pub fn new(rows: usize) -> Result<Self, Refusal> {
         if rows > MOST_ROWS {
             return Err(Refusal::Sizes);

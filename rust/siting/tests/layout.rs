@@ -17,9 +17,10 @@ macro_rules! fields {
     };
 }
 
-const FIELDS: [Field; 19] = fields!(
+const FIELDS: [Field; 21] = fields!(
     has_site lat_bits lon_bits has_alt alt_m generation has_even even_id has_odd odd_id
     has_verdict last wrongs others has_off off_km moved before after
+    has_judged_ms judged_ms
 );
 
 const SITE: Site = Site {
@@ -110,15 +111,15 @@ fn both_sides_have_one_layout() {
     assert_eq!(said_by_c(), said());
 }
 
-/// The fields are the row's 23 numbers, none left out.
+/// The fields are the row's 25 numbers, none left out.
 #[test]
 fn no_number_is_left_out() {
     let places: Vec<usize> = FIELDS.iter().map(|(_, at, _)| *at / 8).collect();
     assert_eq!(offset_of!(Row, key), 0);
-    assert_eq!(places, (4..23).collect::<Vec<_>>());
+    assert_eq!(places, (4..25).collect::<Vec<_>>());
 }
 
-/// What the calls wrote, by name: key, degrees' bits, altitude, generation, id, run, links.
+/// What the calls wrote, by name: key, degrees' bits, altitude, generation, id, run, links, clock.
 #[test]
 fn a_written_row_is_read() {
     let watch = called();
@@ -138,6 +139,8 @@ fn a_written_row_is_read() {
         others: 1,
         before: 1,
         after: none,
+        has_judged_ms: 1,
+        judged_ms: 86_400_000,
         ..Row::default()
     };
     let claimed = Row {
@@ -154,4 +157,6 @@ fn a_written_row_is_read() {
     assert_eq!(watch.ends, [1, 0, 2]);
     assert_eq!(rows[0].site(), Some(SITE));
     assert_eq!(rows[0].ids(), [Some(2), None]);
+    assert_eq!(rows[0].judged_ms(), Some(86_400_000));
+    assert_eq!(rows[1].judged_ms(), None);
 }

@@ -13,14 +13,8 @@ put-heard-requires c κs = search needs
 put-verdict-requires : tie.Need-put-verdict-requires
 put-verdict-requires c κs = search needs
 
-wide32-requires : tie.Need-wide32-requires
-wide32-requires c κs = search needs
-
-wide32-requires-2 : tie.Need-wide32-requires-2
-wide32-requires-2 c κs = search needs
-
-put2-requires : tie.Need-put2-requires
-put2-requires c κs = search needs
+put-tail-requires : tie.Need-put-tail-requires
+put-tail-requires c κs = search needs
 
 same-length : tie.Need-same-length
 same-length c = search needs
@@ -29,14 +23,4 @@ returns : tie.Need-returns
 returns c = search (closes, needs)
 
 pub close-spec : {M : Type 1} → statement M
-close-spec =
-    tie.close
-    (tie.spec
-    put-key-requires
-    put-heard-requires
-    put-verdict-requires
-    wide32-requires
-    wide32-requires-2
-    put2-requires
-    same-length
-    returns)
+close-spec = tie.close (tie.spec put-key-requires put-heard-requires put-verdict-requires put-tail-requires same-length returns)

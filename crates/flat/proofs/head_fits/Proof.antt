@@ -19,17 +19,8 @@ links-fit-requires c κs = search needs
 site-fits-requires : tie.Need-site-fits-requires
 site-fits-requires c κs = search needs
 
-most64-requires : tie.Need-most64-requires
-most64-requires c κs = search needs
-
-maybe-fits-requires : tie.Need-maybe-fits-requires
-maybe-fits-requires c κs = search needs
-
-most64-requires-2 : tie.Need-most64-requires-2
-most64-requires-2 c κs = search needs
-
-maybe-fits-requires-2 : tie.Need-maybe-fits-requires-2
-maybe-fits-requires-2 c κs = search needs
+numbers-fit-requires : tie.Need-numbers-fit-requires
+numbers-fit-requires c κs = search needs
 
 both-requires-2 : tie.Need-both-requires-2
 both-requires-2 c κs = search needs
@@ -40,27 +31,8 @@ both-requires-3 c κs = search needs
 both-requires-4 : tie.Need-both-requires-4
 both-requires-4 c κs = search needs
 
-both-requires-5 : tie.Need-both-requires-5
-both-requires-5 c κs = search needs
-
 returns : tie.Need-returns
 returns c = search (head-fits-is, needs)
 
 pub head-fits-spec : {M : Type 1} → statement M
-head-fits-spec =
-    tie.close
-    (tie.spec
-    wide2-requires
-    wide2-requires-2
-    both-requires
-    links-fit-requires
-    site-fits-requires
-    most64-requires
-    maybe-fits-requires
-    most64-requires-2
-    maybe-fits-requires-2
-    both-requires-2
-    both-requires-3
-    both-requires-4
-    both-requires-5
-    returns)
+head-fits-spec = tie.close (tie.spec wide2-requires wide2-requires-2 both-requires links-fit-requires site-fits-requires numbers-fit-requires both-requires-2 both-requires-3 both-requires-4 returns)

@@ -13,6 +13,12 @@ heard-at-requires c κs = search needs
 verdict-at-requires : tie.Need-verdict-at-requires
 verdict-at-requires c κs = search needs
 
+id-at-requires : tie.Need-id-at-requires
+id-at-requires c κs = search needs
+
+clock-of-requires : tie.Need-clock-of-requires
+clock-of-requires c κs = search needs
+
 shared-slice-read-low32 : tie.Need-shared-slice-read-low32
 shared-slice-read-low32 c = search needs
 
@@ -35,6 +41,8 @@ row-of-spec =
     key-at-requires
     heard-at-requires
     verdict-at-requires
+    id-at-requires
+    clock-of-requires
     shared-slice-read-low32
     low32-requires
     shared-slice-read-low32-2

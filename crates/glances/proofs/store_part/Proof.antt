@@ -10,6 +10,9 @@ put-heard-requires c κs = search needs
 put-verdict-requires : tie.Need-put-verdict-requires
 put-verdict-requires c κs = search needs
 
+put-clock-requires : tie.Need-put-clock-requires
+put-clock-requires c κs = search needs
+
 same-length : tie.Need-same-length
 same-length c = search needs
 
@@ -17,4 +20,4 @@ returns : tie.Need-returns
 returns c = search (part-stored, needs)
 
 pub store-part-spec : {M : Type 1} → statement M
-store-part-spec = tie.close (tie.spec put-heard-requires put-verdict-requires same-length returns)
+store-part-spec = tie.close (tie.spec put-heard-requires put-verdict-requires put-clock-requires same-length returns)

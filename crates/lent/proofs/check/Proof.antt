@@ -27,7 +27,7 @@ returns c =
     let ends-of = c .before .before .before .before .ends-of in
     told-call (check-row .result) _ _ _ (ends-of .last .0) _ _ _
     (check-so (rowsOf (args .rows .now)) (args .cells .now) (args .ends .now) (ends-of .result) (args .key) (look-up .result) (ends-of .ensures .0) (look-up .ensures) _ _ (ends-of .ensures .1) (check-row .ensures))
-    (same-words _ _)
+    (same-words (check-row .result) _)
 
 pub check-spec : {M : Type 1} → statement M
 check-spec =

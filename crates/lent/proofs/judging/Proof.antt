@@ -1,6 +1,5 @@
 -- `lent::judging` meets its contract: each way out is a law that is cited below, at what the calls came to.
-use Rattle.moves.proofs.Entries.{judging-so}
-use Rattle.moves.proofs.Looked.{look-room}
+use Rattle.moves.proofs.Entries.{due-room, judging-so}
 use Rattle.flat.specs.Table.{rowsOf}
 use Rattle.lent.proofs.Exit.{told-call}
 use borrow.Author.Needs.{needs}
@@ -13,15 +12,19 @@ ends-of-requires c κs = search needs
 look-up-requires : tie.Need-look-up-requires
 look-up-requires c κs = search needs
 
+due-at-requires : tie.Need-due-at-requires
+due-at-requires c κs = search needs
+
 heard-at-requires : tie.Need-heard-at-requires
 heard-at-requires c κs = search needs
 
 judge-at-requires : tie.Need-judge-at-requires
 judge-at-requires c κs =
-    let args = c .before .before .before .before .before .before .before .before .before .args in
-    let look-up = c .before .before .before .look-up in
-    let ends-of = c .before .before .before .before .before .ends-of in
-    look-room (rowsOf (args .rows .now)) (args .cells .now) (args .ends .now) (ends-of .result) (args .key) (look-up .result) (ends-of .ensures .0) (look-up .ensures)
+    let args = c .before .before .before .before .before .before .before .before .before .before .before .args in
+    let due-at = c .before .before .before .due-at in
+    let look-up = c .before .before .before .before .before .look-up in
+    let ends-of = c .before .before .before .before .before .before .before .ends-of in
+    due-room (rowsOf (args .rows .now)) (args .cells .now) (args .ends .now) (ends-of .result) (args .key) (look-up .result) (ends-of .ensures .0) (look-up .ensures) (args .now-ms) (due-at .result) (due-at .ensures)
 
 judge-row-requires : tie.Need-judge-row-requires
 judge-row-requires c κs = search needs
@@ -34,14 +37,15 @@ same-length-2 c = search needs
 
 returns : tie.Need-returns
 returns c =
-    let args = c .before .before .before .before .before .before .before .before .before .before .before .before .before .before .args in
+    let args = c .before .before .before .before .before .before .before .before .before .before .before .before .before .before .before .before .args in
     let judge-row = c .before .before .judge-row in
     let judge-at = c .before .before .before .before .judge-at in
     let heard-at = c .before .before .before .before .before .before .heard-at in
-    let look-up = c .before .before .before .before .before .before .before .before .look-up in
-    let ends-of = c .before .before .before .before .before .before .before .before .before .before .ends-of in
+    let due-at = c .before .before .before .before .before .before .before .before .due-at in
+    let look-up = c .before .before .before .before .before .before .before .before .before .before .look-up in
+    let ends-of = c .before .before .before .before .before .before .before .before .before .before .before .before .ends-of in
     told-call _ _ _ _ (ends-of .last .0) _ _ _
-    (judging-so (rowsOf (args .rows .now)) (args .cells .now) (args .ends .now) (ends-of .result) (args .key) (look-up .result) (ends-of .ensures .0) (look-up .ensures) (args .now-ms) (args .aircraft) (heard-at .result) (judge-at .result) _ _ _ (heard-at .ensures) (judge-at .ensures) (judge-row .ensures .0, judge-row .ensures .1) (ends-of .ensures .1))
+    (judging-so (rowsOf (args .rows .now)) (args .cells .now) (args .ends .now) (ends-of .result) (args .key) (look-up .result) (ends-of .ensures .0) (look-up .ensures) (args .now-ms) (args .aircraft) (due-at .result) (heard-at .result) (judge-at .result) _ _ _ (due-at .ensures) (heard-at .ensures) (judge-at .ensures) (judge-row .ensures .0, judge-row .ensures .1) (ends-of .ensures .1))
     (judge-row .ensures .2)
 
 pub judging-spec : {M : Type 1} → statement M
@@ -50,6 +54,7 @@ judging-spec =
     (tie.spec
     ends-of-requires
     look-up-requires
+    due-at-requires
     heard-at-requires
     judge-at-requires
     judge-row-requires

@@ -5,7 +5,7 @@ use Rattle.rows.specs.declared.Row.{Row}
 use Rattle.rows.specs.declared.Look.{Look}
 use Rattle.rows.specs.Links.{blank}
 use Rattle.rows.specs.Search.{isNo, atOf, numberOf}
-use Rattle.records.proofs.Types.{R, link, row, looked}
+use Rattle.records.proofs.Types.{R, index, link, row, looked}
 use Rattle.watch.proofs.Types.{answer-datum, judgment-datum}
 use Rattle.near_field.specs.declared.Judgment.{Judgment}
 use Rattle.moves.specs.Answers.{saying}
@@ -42,45 +42,45 @@ use Rattle.watch.proofs.judge_row.Code.Mir as written
 module _ {M : Type 1} (𝓤 : URA M) (H : Heap 𝓤) (A : Atoms 𝓤) (W : Given 𝓤 H A) (mem : Memory → SProp 𝓤) (run : Routine → Fun 𝓤) (C : Calls 𝓤 H) (Λ : Loops 𝓤 H) (fm : FmC 𝓤 H (W .laws) C)
     (σ : Head → Ty) (fits-answer-datum : Fits σ answer-datum) (fits-row : Fits σ row) (fits-looked : Fits σ looked) (fits-judgment-datum : Fits σ judgment-datum)
     (met-is-no : Meets 𝓤 H A is-no.signature (C is-no-def.name) (is-no.spec 𝓤 H A mem run)) (met-no-to : Meets 𝓤 H A no-to.signature (C no-to-def.name) (no-to.spec 𝓤 H A mem run)) (met-at-of : Meets 𝓤 H A at-of.signature (C at-of-def.name) (at-of.spec 𝓤 H A mem run)) (met-get : Meets 𝓤 H A get.signature (C get-def.name) (get.spec 𝓤 H A mem run)) (met-judged-part : Meets 𝓤 H A judged-part.signature (C judged-part-def.name) (judged-part.spec 𝓤 H A mem run)) (met-put : Meets 𝓤 H A put.signature (C put-def.name) (put.spec 𝓤 H A mem run)) (met-judged : Meets 𝓤 H A judged.signature (C judged-def.name) (judged.spec 𝓤 H A mem run))
-    (κ : Lft) (q : Share) (γ : GName) (b o : ℕ) (xs : List Row) (l : Look) (j : Judgment) where
-  walk : Room R (length xs) → Is (looked .row) l (looked .val l ∷ []) → Is (judgment-datum .row) j (judgment-datum .val j ∷ [])
+    (κ : Lft) (q : Share) (γ : GName) (b o : ℕ) (xs : List Row) (l : Look) (t : ℕ) (j : Judgment) where
+  walk : Room R (length xs) → Is (looked .row) l (looked .val l ∷ []) → Is (index .row) t (index .val t ∷ []) → Is (judgment-datum .row) j (judgment-datum .val j ∷ [])
       → ent 𝓤 (⋆ 𝓤 H A (‵ (MutSlice (named 0) κ R .own (ref-at b o xs γ) (sliceVal (b, o) (length xs) ∷ [])) ∷ ‵ (flft κ q) ∷ []))
-      (WpFn 𝓤 H C Λ (spelled σ written.by-name) (sliceVal (b, o) (length xs) ∷ looked .val l ∷ judgment-datum .val j ∷ []) (MutPost R (looked ∷ judgment-datum ∷ []) answer-datum 𝓤 H A W (judge-row.clauses 𝓤 H A mem run) κ q γ b o xs (l, (j, tt)) tt))
-  walk room l-is j-is =
+      (WpFn 𝓤 H C Λ (spelled σ written.by-name) (sliceVal (b, o) (length xs) ∷ looked .val l ∷ index .val t ∷ judgment-datum .val j ∷ []) (MutPost R (looked ∷ index ∷ judgment-datum ∷ []) answer-datum 𝓤 H A W (judge-row.clauses 𝓤 H A mem run) κ q γ b o xs (l, (t, (j, tt))) tt))
+  walk room l-is t-is j-is =
       qed W (‵ (MutSlice (named 0) κ R .own (ref-at b o xs γ) (sliceVal (b, o) (length xs) ∷ [])) ∷ ‵ (flft κ q) ∷ []) ∵ enter ! C Λ (spelled σ written.by-name) _ _ $
-      alloc1 ! (λ l0. alloc1 ! (λ l1. alloc1 ! (λ l2. alloc1 ! (λ l3. alloc1 ! (λ l4. alloc1 ! (λ l5. alloc1 ! (λ l6. alloc1 ! (λ l7. alloc1 ! (λ l8. alloc1 ! (λ l9. alloc1 ! (λ l10. alloc1 ! (λ l11. alloc1 ! (λ l12. alloc1 ! (λ l13. alloc0 ! $ params1 ! $ pass1 ! (init ! 24 refl (tt, (tt, (record { fits = room .0 }, tt)))) $ pass1 ! (init ! 22 refl (fits-looked l l-is)) $ pass1 ! (init ! 20 refl (fits-judgment-datum j j-is)) $ pass0 ! $ move ! (28 ∷ 29 ∷ []) $
-      -- [of each reference, what it owns and its token; _13; …; …; _1; …; room for _0; …]: local k stands at 28 - 2 k
-      call-plain ! fm (looked ∷ []) truth (is-no.clauses 𝓤 H A mem run) met-is-no (l, tt) (l-is, tt) tt (id⊢ 𝓤 (emp 𝓤)) (λ r. r ≡ isNo l) (λ _ _. id⊢ 𝓤 _) (λ _. and-then ! (load ! (from ! (stop !)) (look ! 25 refl)) (no-more !)) (λ r1 r1-is e1.
+      alloc1 ! (λ l0. alloc1 ! (λ l1. alloc1 ! (λ l2. alloc1 ! (λ l3. alloc1 ! (λ l4. alloc1 ! (λ l5. alloc1 ! (λ l6. alloc1 ! (λ l7. alloc1 ! (λ l8. alloc1 ! (λ l9. alloc1 ! (λ l10. alloc1 ! (λ l11. alloc1 ! (λ l12. alloc1 ! (λ l13. alloc1 ! (λ l14. alloc0 ! $ params1 ! $ pass1 ! (init ! 26 refl (tt, (tt, (record { fits = room .0 }, tt)))) $ pass1 ! (init ! 24 refl (fits-looked l l-is)) $ pass1 ! (init ! 22 refl (tt, record { fits = t-is .1 })) $ pass1 ! (init ! 20 refl (fits-judgment-datum j j-is)) $ pass0 ! $ move ! (30 ∷ 31 ∷ []) $
+      -- [of each reference, what it owns and its token; _14; …; …; _1; …; room for _0; …]: local k stands at 30 - 2 k
+      call-plain ! fm (looked ∷ []) truth (is-no.clauses 𝓤 H A mem run) met-is-no (l, tt) (l-is, tt) tt (id⊢ 𝓤 (emp 𝓤)) (λ r. r ≡ isNo l) (λ _ _. id⊢ 𝓤 _) (λ _. and-then ! (load ! (from ! (stop !)) (look ! 27 refl)) (no-more !)) (λ r1 r1-is e1.
       land ! (from ! (stop !)) (init ! 20 refl (tt, tt)) $
       assigns ! (of-opd ! (load ! (from ! (stop !)) (look ! 20 refl))) (from ! (stop !)) (init ! 14 refl (tt, tt)) $
       guards ! (load ! (from ! (stop !)) (look ! 14 refl))
       (λ yes1.
-      call-plain ! fm (looked ∷ []) answer-datum (no-to.clauses 𝓤 H A mem run) met-no-to (l, tt) (l-is, tt) tt (id⊢ 𝓤 (emp 𝓤)) (λ r. r ≡ saying (Wd.Refused (numberOf l))) (λ _ _. id⊢ 𝓤 _) (λ _. and-then ! (load ! (from ! (stop !)) (look ! 25 refl)) (no-more !)) (λ r2 r2-is e2.
-      land ! (from ! (stop !)) (init ! 28 refl (fits-answer-datum r2 r2-is)) $
-      returns-within ! (MutPost R (looked ∷ judgment-datum ∷ []) answer-datum 𝓤 H A W (judge-row.clauses 𝓤 H A mem run) κ q γ b o xs (l, (j, tt)) tt) refl (look ! 28 refl) $ out ! 28 refl refl $ out ! 26 refl refl $ out ! 24 refl refl $ out ! 22 refl refl $ out ! 20 refl refl $ out-room ! 18 refl refl $ out-room ! 16 refl refl $ out ! 14 refl refl $ out-room ! 12 refl refl $ out-room ! 10 refl refl $ out-room ! 8 refl refl $ out-room ! 6 refl refl $ out-room ! 4 refl refl $ out-room ! 2 refl refl $ free0 ! $ move ! (0 ∷ 1 ∷ []) $
-      by ! (mut-exits R (looked ∷ judgment-datum ∷ []) answer-datum 𝓤 H A W (judge-row.clauses 𝓤 H A mem run) κ q γ b o xs (l, (j, tt)) tt r2 xs refl r2-is (factI 𝓤 _ (emp 𝓤) (judge-none xs l j r2 (sym e1 ∙ yes1) e2)))))
+      call-plain ! fm (looked ∷ []) answer-datum (no-to.clauses 𝓤 H A mem run) met-no-to (l, tt) (l-is, tt) tt (id⊢ 𝓤 (emp 𝓤)) (λ r. r ≡ saying (Wd.Refused (numberOf l))) (λ _ _. id⊢ 𝓤 _) (λ _. and-then ! (load ! (from ! (stop !)) (look ! 27 refl)) (no-more !)) (λ r2 r2-is e2.
+      land ! (from ! (stop !)) (init ! 30 refl (fits-answer-datum r2 r2-is)) $
+      returns-within ! (MutPost R (looked ∷ index ∷ judgment-datum ∷ []) answer-datum 𝓤 H A W (judge-row.clauses 𝓤 H A mem run) κ q γ b o xs (l, (t, (j, tt))) tt) refl (look ! 30 refl) $ out ! 30 refl refl $ out ! 28 refl refl $ out ! 26 refl refl $ out ! 24 refl refl $ out ! 22 refl refl $ out ! 20 refl refl $ out-room ! 18 refl refl $ out-room ! 16 refl refl $ out ! 14 refl refl $ out-room ! 12 refl refl $ out-room ! 10 refl refl $ out-room ! 8 refl refl $ out-room ! 6 refl refl $ out-room ! 4 refl refl $ out-room ! 2 refl refl $ free0 ! $ move ! (0 ∷ 1 ∷ []) $
+      by ! (mut-exits R (looked ∷ index ∷ judgment-datum ∷ []) answer-datum 𝓤 H A W (judge-row.clauses 𝓤 H A mem run) κ q γ b o xs (l, (t, (j, tt))) tt r2 xs refl r2-is (factI 𝓤 _ (emp 𝓤) (judge-none xs l t j r2 (sym e1 ∙ yes1) e2)))))
       (λ no1.
-      call-plain ! fm (looked ∷ []) link (at-of.clauses 𝓤 H A mem run) met-at-of (l, tt) (l-is, tt) tt (id⊢ 𝓤 (emp 𝓤)) (λ r. r ≡ atOf l) (λ _ _. id⊢ 𝓤 _) (λ _. and-then ! (load ! (from ! (stop !)) (look ! 25 refl)) (no-more !)) (λ r3 r3-is e3.
+      call-plain ! fm (looked ∷ []) link (at-of.clauses 𝓤 H A mem run) met-at-of (l, tt) (l-is, tt) tt (id⊢ 𝓤 (emp 𝓤)) (λ r. r ≡ atOf l) (λ _ _. id⊢ 𝓤 _) (λ _. and-then ! (load ! (from ! (stop !)) (look ! 27 refl)) (no-more !)) (λ r3 r3-is e3.
       land ! (from ! (stop !)) (init ! 18 refl (tt, record { fits = r3-is .1 })) $
-      assigns ! (addr ! (from ! (fld ! refl (hop ! (look-in ! 26 (sub ! 0 refl (whole !))) (stop !))))) (from ! (stop !)) (init ! 12 refl (tt, tt)) $
-      assigns ! (agg ! (and-then ! (load ! (from ! (stop !)) (look ! 12 refl)) (and-then ! (load ! (from ! (fld ! refl (stop !))) (look-in ! 26 (sub ! 1 refl (whole !)))) (no-more !)))) (from ! (stop !)) (init ! 10 refl (tt, (tt, (record { fits = room .0 }, tt)))) $
+      assigns ! (addr ! (from ! (fld ! refl (hop ! (look-in ! 28 (sub ! 0 refl (whole !))) (stop !))))) (from ! (stop !)) (init ! 12 refl (tt, tt)) $
+      assigns ! (agg ! (and-then ! (load ! (from ! (stop !)) (look ! 12 refl)) (and-then ! (load ! (from ! (fld ! refl (stop !))) (look-in ! 28 (sub ! 1 refl (whole !)))) (no-more !)))) (from ! (stop !)) (init ! 10 refl (tt, (tt, (record { fits = room .0 }, tt)))) $
       call-view R xs refl ! fm (link ∷ []) row (get.clauses 𝓤 H A mem run) met-get room (r3, tt) (r3-is, tt) (λ _ _. tt) (λ _ _. id⊢ 𝓤 (emp 𝓤)) (λ r. r ≡ getD xs r3 blank) (λ _ _ _ _. id⊢ 𝓤 _) (λ _ _ _. and-then ! (load ! (from ! (stop !)) (look ! 10 refl)) (and-then ! (load ! (from ! (stop !)) (look ! 18 refl)) (no-more !))) (λ r4 r4-is e4.
       land ! (from ! (stop !)) (init ! 16 refl (fits-row r4 r4-is)) $
-      assigns ! (addr ! (from ! (fld ! refl (hop ! (look-in ! 26 (sub ! 0 refl (whole !))) (stop !))))) (from ! (stop !)) (init ! 6 refl (tt, tt)) $
-      assigns ! (agg ! (and-then ! (load ! (from ! (stop !)) (look ! 6 refl)) (and-then ! (load ! (from ! (fld ! refl (stop !))) (look-in ! 26 (sub ! 1 refl (whole !)))) (no-more !)))) (from ! (stop !)) (init ! 4 refl (tt, (tt, (record { fits = room .0 }, tt)))) $
-      call-plain ! fm (row ∷ judgment-datum ∷ []) row (judged-part.clauses 𝓤 H A mem run) met-judged-part (r4, (j, tt)) (r4-is, (j-is, tt)) tt (id⊢ 𝓤 (emp 𝓤)) (λ r. r ≡ judgedRow r4 j) (λ _ _. id⊢ 𝓤 _) (λ _. and-then ! (load ! (from ! (stop !)) (look ! 17 refl)) (and-then ! (load ! (from ! (stop !)) (look ! 23 refl)) (no-more !))) (λ r5 r5-is e5.
+      assigns ! (addr ! (from ! (fld ! refl (hop ! (look-in ! 28 (sub ! 0 refl (whole !))) (stop !))))) (from ! (stop !)) (init ! 6 refl (tt, tt)) $
+      assigns ! (agg ! (and-then ! (load ! (from ! (stop !)) (look ! 6 refl)) (and-then ! (load ! (from ! (fld ! refl (stop !))) (look-in ! 28 (sub ! 1 refl (whole !)))) (no-more !)))) (from ! (stop !)) (init ! 4 refl (tt, (tt, (record { fits = room .0 }, tt)))) $
+      call-plain ! fm (row ∷ index ∷ judgment-datum ∷ []) row (judged-part.clauses 𝓤 H A mem run) met-judged-part (r4, (t, (j, tt))) (r4-is, (t-is, (j-is, tt))) tt (id⊢ 𝓤 (emp 𝓤)) (λ r. r ≡ judgedRow r4 t j) (λ _ _. id⊢ 𝓤 _) (λ _. and-then ! (load ! (from ! (stop !)) (look ! 17 refl)) (and-then ! (load ! (from ! (stop !)) (look ! 25 refl)) (and-then ! (load ! (from ! (stop !)) (look ! 23 refl)) (no-more !)))) (λ r5 r5-is e5.
       land ! (from ! (stop !)) (init ! 2 refl (fits-row r5 r5-is)) $
       call-mut R xs refl ! fm (link ∷ row ∷ []) none (put.clauses 𝓤 H A mem run) met-put room (r3, (r5, tt)) (r3-is, (r5-is, tt)) (λ _ _. tt) (λ _ _. id⊢ 𝓤 (emp 𝓤)) (λ r zs. zs ≡ set xs r3 r5) (λ _ _ _ _. id⊢ 𝓤 _) (λ _ _ _. and-then ! (load ! (from ! (stop !)) (look ! 4 refl)) (and-then ! (load ! (from ! (stop !)) (look ! 18 refl)) (and-then ! (load ! (from ! (stop !)) (look ! 2 refl)) (no-more !)))) (λ r6 zs6 l6 r6-is e6.
       land ! (from ! (stop !)) (init ! 8 refl (tt, tt)) $
       call-plain ! fm (judgment-datum ∷ []) answer-datum (judged.clauses 𝓤 H A mem run) met-judged (j, tt) (j-is, tt) tt (id⊢ 𝓤 (emp 𝓤)) (λ r. r ≡ saying (Wd.Judged j)) (λ _ _. id⊢ 𝓤 _) (λ _. and-then ! (load ! (from ! (stop !)) (look ! 23 refl)) (no-more !)) (λ r7 r7-is e7.
-      land ! (from ! (stop !)) (init ! 28 refl (fits-answer-datum r7 r7-is)) $
-      returns ! (look ! 28 refl) $ out ! 28 refl refl $ out ! 26 refl refl $ out ! 24 refl refl $ out ! 22 refl refl $ out ! 20 refl refl $ out ! 18 refl refl $ out ! 16 refl refl $ out ! 14 refl refl $ out ! 12 refl refl $ out ! 10 refl refl $ out ! 8 refl refl $ out ! 6 refl refl $ out ! 4 refl refl $ out ! 2 refl refl $ free0 ! $ move ! (0 ∷ 1 ∷ []) $
-      by ! (mut-exits R (looked ∷ judgment-datum ∷ []) answer-datum 𝓤 H A W (judge-row.clauses 𝓤 H A mem run) κ q γ b o xs (l, (j, tt)) tt r7 zs6 l6 r7-is (factI 𝓤 _ (emp 𝓤) (judge-kept xs l j r3 r4 r5 zs6 r7 (sym e1 ∙ no1) e3 e4 e5 e6 e7))))))))))))))))))))))))
+      land ! (from ! (stop !)) (init ! 30 refl (fits-answer-datum r7 r7-is)) $
+      returns ! (look ! 30 refl) $ out ! 30 refl refl $ out ! 28 refl refl $ out ! 26 refl refl $ out ! 24 refl refl $ out ! 22 refl refl $ out ! 20 refl refl $ out ! 18 refl refl $ out ! 16 refl refl $ out ! 14 refl refl $ out ! 12 refl refl $ out ! 10 refl refl $ out ! 8 refl refl $ out ! 6 refl refl $ out ! 4 refl refl $ out ! 2 refl refl $ free0 ! $ move ! (0 ∷ 1 ∷ []) $
+      by ! (mut-exits R (looked ∷ index ∷ judgment-datum ∷ []) answer-datum 𝓤 H A W (judge-row.clauses 𝓤 H A mem run) κ q γ b o xs (l, (t, (j, tt))) tt r7 zs6 l6 r7-is (factI 𝓤 _ (emp 𝓤) (judge-kept xs l t j r3 r4 r5 zs6 r7 (sym e1 ∙ no1) e3 e4 e5 e6 e7)))))))))))))))))))))))))
 
 pub judge-row-spec : {M : Type 1} → stated.statement M
 unfolding code.routine
 judge-row-spec 𝓤 H 𝓜 𝓖 𝓡 =
-    mut-closed 𝓤 H 𝓜 𝓖 𝓡 R (looked ∷ judgment-datum ∷ []) answer-datum code.env name code.function (code.unfolded 𝓤 H 𝓜 𝓡) (judge-row.clauses 𝓤 H (𝓖 .A) (𝓜 .mem) (𝓡 .run)) (λ κ q γ b o xs a g room fit. via 𝓤 _ (fst∗ 𝓤 _ (emp 𝓤))
+    mut-closed 𝓤 H 𝓜 𝓖 𝓡 R (looked ∷ index ∷ judgment-datum ∷ []) answer-datum code.env name code.function (code.unfolded 𝓤 H 𝓜 𝓡) (judge-row.clauses 𝓤 H (𝓖 .A) (𝓜 .mem) (𝓡 .run)) (λ κ q γ b o xs a g room fit. via 𝓤 _ (fst∗ 𝓤 _ (emp 𝓤))
     (walk 𝓤 H (𝓖 .A) (the-given 𝓤 H 𝓜 𝓖 𝓡) (𝓜 .mem) (𝓡 .run) (the-tables 𝓤 H 𝓜 𝓖 𝓡 code.env .C) (the-tables 𝓤 H 𝓜 𝓖 𝓡 code.env .Λ) (framed 𝓤 H 𝓜 𝓖 𝓡 code.env) (entry written.table) (λ x is. answer-datum .lawful 𝓤 H (𝓖 .A) (the-given 𝓤 H 𝓜 𝓖 𝓡) .typed x _ is .0) (λ x is. row .lawful 𝓤 H (𝓖 .A) (the-given 𝓤 H 𝓜 𝓖 𝓡) .typed x _ is .0) (λ x is. looked .lawful 𝓤 H (𝓖 .A) (the-given 𝓤 H 𝓜 𝓖 𝓡) .typed x _ is .0) (λ x is. judgment-datum .lawful 𝓤 H (𝓖 .A) (the-given 𝓤 H 𝓜 𝓖 𝓡) .typed x _ is .0)
     (known 𝓤 H 𝓜 𝓖 𝓡 is-no.signature (is-no.spec 𝓤 H (𝓖 .A) (𝓜 .mem) (𝓡 .run)) code.env is-no-def.name is-no-def.routine code.calls-rows·is-no (is-no-thm.met 𝓤 H 𝓜 𝓖 𝓡))
     (known 𝓤 H 𝓜 𝓖 𝓡 no-to.signature (no-to.spec 𝓤 H (𝓖 .A) (𝓜 .mem) (𝓡 .run)) code.env no-to-def.name no-to-def.routine code.calls-moves·no-to (no-to-thm.met 𝓤 H 𝓜 𝓖 𝓡))
@@ -89,4 +89,4 @@ judge-row-spec 𝓤 H 𝓜 𝓖 𝓡 =
     (known 𝓤 H 𝓜 𝓖 𝓡 judged-part.signature (judged-part.spec 𝓤 H (𝓖 .A) (𝓜 .mem) (𝓡 .run)) code.env judged-part-def.name judged-part-def.routine code.calls-moves·judged-part (judged-part-thm.met 𝓤 H 𝓜 𝓖 𝓡))
     (known 𝓤 H 𝓜 𝓖 𝓡 put.signature (put.spec 𝓤 H (𝓖 .A) (𝓜 .mem) (𝓡 .run)) code.env put-def.name put-def.routine code.calls-records·put (put-thm.met 𝓤 H 𝓜 𝓖 𝓡))
     (known 𝓤 H 𝓜 𝓖 𝓡 judged.signature (judged.spec 𝓤 H (𝓖 .A) (𝓜 .mem) (𝓡 .run)) code.env judged-def.name judged-def.routine code.calls-moves·judged (judged-thm.met 𝓤 H 𝓜 𝓖 𝓡))
-    κ q γ b o xs (a .0) (a .1 .0) room (fit .0) (fit .1 .0)))
+    κ q γ b o xs (a .0) (a .1 .0) (a .1 .1 .0) room (fit .0) (fit .1 .0) (fit .1 .1 .0)))

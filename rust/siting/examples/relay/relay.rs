@@ -127,7 +127,8 @@ pub struct Relay {
     due_ms: Option<u64>,
     rounds: u64,
     calls: u64,
-    refused: [u64; 9],
+    /// By the number of the question.
+    refused: [u64; 10],
 }
 
 impl Relay {
@@ -141,7 +142,7 @@ impl Relay {
             due_ms: None,
             rounds: 0,
             calls: 0,
-            refused: [0; 9],
+            refused: [0; 10],
         })
     }
 

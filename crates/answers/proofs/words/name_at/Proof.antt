@@ -116,6 +116,9 @@ enum-told-36 c = search needs
 enum-told-37 : tie.Need-enum-told-37
 enum-told-37 c = search needs
 
+enum-told-38 : tie.Need-enum-told-38
+enum-told-38 c = search needs
+
 returns : tie.Need-returns
 unfolding wordAt partOf firstOf
 returns c = rw (c .enum-told .given .1)
@@ -264,6 +267,10 @@ returns-37 : tie.Need-returns-37
 unfolding wordAt partOf firstOf
 returns-37 c = rw (c .enum-told37 .given .1)
 
+returns-38 : tie.Need-returns-38
+unfolding wordAt partOf firstOf
+returns-38 c = rw (c .enum-told38 .given .1)
+
 pub name-at-spec : {M : Type 1} → statement M
 name-at-spec =
     tie.close
@@ -305,6 +312,7 @@ name-at-spec =
     enum-told-35
     enum-told-36
     enum-told-37
+    enum-told-38
     returns
     returns-2
     returns-3
@@ -341,4 +349,5 @@ name-at-spec =
     returns-34
     returns-35
     returns-36
-    returns-37)
+    returns-37
+    returns-38)

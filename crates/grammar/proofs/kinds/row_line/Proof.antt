@@ -16,6 +16,9 @@ part-at-requires c κs = search needs
 links-at-requires : tie.Need-links-at-requires
 links-at-requires c κs = search needs
 
+clock-at-requires : tie.Need-clock-at-requires
+clock-at-requires c κs = search needs
+
 ended-requires : tie.Need-ended-requires
 ended-requires c κs = search needs
 
@@ -33,6 +36,7 @@ row-line-spec =
     key-at-requires
     part-at-requires
     links-at-requires
+    clock-at-requires
     ended-requires
     told-requires
     returns)

@@ -1,4 +1,4 @@
--- `lending::digest::mix_row` meets its contract: key, site and ids, verdict and links one after the other.
+-- `lending::digest::mix_row` meets its contract: key, site and ids, verdict, links and clock one after the other.
 use borrow.Author.Needs.{needs}
 use Rattle.lending.proofs.Mixing.{row-mixed}
 use Rattle.lending.proofs.digest.mix_row.Statement.{statement}
@@ -22,6 +22,12 @@ link-word-requires-2 c κs = search needs
 mix-two-requires : tie.Need-mix-two-requires
 mix-two-requires c κs = search needs
 
+clock-id-requires : tie.Need-clock-id-requires
+clock-id-requires c κs = search needs
+
+mix-id-requires : tie.Need-mix-id-requires
+mix-id-requires c κs = search needs
+
 returns : tie.Need-returns
 returns c = search (row-mixed, needs)
 
@@ -35,4 +41,6 @@ mix-row-spec =
     link-word-requires
     link-word-requires-2
     mix-two-requires
+    clock-id-requires
+    mix-id-requires
     returns)

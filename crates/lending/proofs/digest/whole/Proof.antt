@@ -1,4 +1,4 @@
--- `lending::digest::whole` meets its contract: the first 23 × C words are C rows.
+-- `lending::digest::whole` meets its contract: the first 25 × C words are C rows.
 use lib.Seq.{length-take-le}
 use borrow.Author.Needs.{needs}
 use Rattle.lending.proofs.Walking.{rows-count}
