@@ -47,15 +47,13 @@ fn signed(n: u64, minus: bool) -> i64
     if minus { -(n as i64) } else { n as i64 }
 }
 
-// The nearest tick of 2^-24 degree, ties away from zero. Both signs take one way: positions of mixed sign cost no more.
+// The nearest tick of 2^-24 degree, ties away from zero: half of the size in units of 2^-25. Both signs take one way: positions of
+// mixed sign cost no more.
 pub fn tick(deg: f64) -> i64
     requires { ⌜ T (within 180 deg) ⌝ }
     ensures { λ r. ⌜ r ≡ tickOf deg ⌝ }
 {
-    if deg == 0.0 {
-        return 0;
-    }
     let minus = deg < 0.0;
-    let n = steps::half_up(size(deg, minus) * 16777216.0);
+    let n = steps::rounded_half(size(deg, minus) * 33554432.0);
     signed(n, minus)
 }

@@ -6,6 +6,7 @@ use measures::degrees;
 use sites::Altitude;
 use sites::Site;
 
+pub mod column;
 pub mod row;
 
 // A site of no altitude.

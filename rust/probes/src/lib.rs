@@ -3,6 +3,7 @@
 mod c {
     unsafe extern "C" {
         pub safe fn probe_same_place(lat1: f64, lon1: f64, lat2: f64, lon2: f64) -> u8;
+        pub safe fn probe_column(mm: i64) -> u32;
         #[cfg(judge)]
         pub fn probe_judge(
             cells: *const u32,
@@ -26,6 +27,11 @@ pub const CELLS: usize = 3_344;
 /// Whether two sites are at most 1 km apart: 1 or 0; 4 for degrees out of range.
 pub fn same_place(lat1: f64, lon1: f64, lat2: f64, lon2: f64) -> u8 {
     c::probe_same_place(lat1, lon1, lat2, lon2)
+}
+
+/// The column of so many millimetres east, or the row of so many north; 65,535 past the grid.
+pub fn column(mm: i64) -> u32 {
+    c::probe_column(mm)
 }
 
 /// Whether the archive has the judging.

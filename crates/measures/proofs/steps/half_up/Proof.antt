@@ -1,7 +1,7 @@
--- `steps::half_up` meets its contract: twice y is exact, and half of what is left of it without its fraction, rounded up, is y rounded. Assumes nothing.
-use mathlib.Core.Path.{_≡_, sym, ap, _∙_, subst}
+-- `steps::half_up` meets its contract: twice y is exact, and its half rounded is y rounded. Assumes nothing.
+use mathlib.Core.Path.{sym, ap, _∙_, subst}
+use mathlib.Core.Bool.{false}
 use Prim.Native.Nat.{ℕ, _+_, _*_, _/_, _^_, _<_}
-use native.Mathlib.Nat.{div-lt-iff-lt-mul}
 use native.Mathlib.Omega.{arith}
 use lib.Dec.{T}
 use lib.Ieee.{binary64, fits, ofBits}
@@ -16,37 +16,27 @@ held c = subst T (sym (c .good .0 .1)) tt
 doubled : (c : tie.Start) → Twice (c .args .y)
 doubled c = twice (c .args .y) (held c) (c .pre)
 
-small : (a c : ℕ) → a < 2 ^ 52 * c → a * 2 < 2 ^ 64 * c
-small a c h = omega arith
-
-tiny : (a c : ℕ) → 0 < c → a < 2 ^ 52 * c → a * 2 / c < 2 ^ 53
-tiny a c C h = div-lt-iff-lt-mul C .1 (below a c h)
-  where
-    below : (a c : ℕ) → a < 2 ^ 52 * c → a * 2 < 2 ^ 53 * c
-    below a c h = omega arith
-
-truncating-f64-to-u64-requires : tie.Need-truncating-f64-to-u64-requires
+rounded-half-requires : tie.Need-rounded-half-requires
 unfolding ofBits
-truncating-f64-to-u64-requires c κs =
+rounded-half-requires c κs =
     let y = c .args .y in
     let d = doubled c in
-    in-range _ (num y * 2) (den y) (den-pos y) (d .value) (small (num y) (den y) (d .bound))
-
--- what is left of twice y without its fraction
-whole : (c : tie.After-truncating-f64-to-u64) → c .truncating-f64-to-u64 .result ≡ num (c .before .args .y) * 2 / den (c .before .args .y)
-unfolding ofBits
-whole c =
-    let y = c .before .args .y in
-    let d = doubled (c .before) in
-    c .truncating-f64-to-u64 .ensures ∙ cut _ (num y * 2) (den y) (den-pos y) (d .value) (small (num y) (den y) (d .bound))
-
-add-result : tie.Need-add-result
-add-result c = omega (arith, whole c, tiny (num (c .before .args .y)) (den (c .before .args .y)) (den-pos (c .before .args .y)) (doubled (c .before) .bound))
+    in-range 53 _ false (num y * 2) (den y) (den-pos y) (d .value) (λ t. absurd t) (small (num y) (den y) (d .bound))
+  where
+    small : (a c : ℕ) → a < 2 ^ 52 * c → a * 2 < 2 ^ 53 * c
+    small a c h = omega arith
 
 returns : tie.Need-returns
+unfolding ofBits
 returns c =
     let y = c .before .args .y in
-    ap (λ (n : ℕ). (n + 1) / 2) (whole c) ∙ halved (num y) (den y) (den-pos y) ∙ sym (doubled (c .before) .whole)
+    let d = doubled (c .before) in
+    c .rounded-half .ensures
+    ∙ ap (λ (n : ℕ). (n + 1) / 2) (cut _ false (num y * 2) (den y) (den-pos y) (d .value) (λ t. absurd t) (small (num y) (den y) (d .bound)))
+    ∙ halved (num y) (den y) (den-pos y) ∙ sym (d .whole)
+  where
+    small : (a c : ℕ) → a < 2 ^ 52 * c → a * 2 < 2 ^ 64 * c
+    small a c h = omega arith
 
 pub half-up-spec : {M : Type 1} → statement M
-half-up-spec = tie.close (tie.spec truncating-f64-to-u64-requires add-result returns)
+half-up-spec = tie.close (tie.spec rounded-half-requires returns)
