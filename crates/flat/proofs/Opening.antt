@@ -167,8 +167,8 @@ and-assoc : (a b c : Bool) → ((a && b) && c) ≡ (a && (b && c))
 and-assoc true b c = refl
 and-assoc false b c = refl
 
-last-of-four : (k l s n v : Bool) → ((k && (l && (s && n))) && v) ≡ (k && (l && (s && (n && v))))
-last-of-four k l s n v = and-assoc k (l && (s && n)) v ∙ ap (λ (x : Bool). k && x) (and-assoc l (s && n) v ∙ ap (λ (x : Bool). l && x) (and-assoc s n v))
+behind-three : (k l s x : Bool) → ((k && (l && s)) && x) ≡ (k && (l && (s && x)))
+behind-three k l s x = and-assoc k (l && s) x ∙ ap (λ (y : Bool). k && y) (and-assoc l s x)
 
 module _ (ws : List ℕ) where
   pub links-fit-is : (m : ℕ) (a b c x r : Bool) → m ≡ most32 → a ≡ leb (getD ws 9 0) m → b ≡ leb (getD ws 21 0) m → c ≡ leb (getD ws 22 0) m → x ≡ (b && c) → r ≡ (a && x) → r ≡ (leb (getD ws 9 0) most32 && (leb (getD ws 21 0) most32 && leb (getD ws 22 0) most32))
@@ -180,15 +180,15 @@ module _ (ws : List ℕ) where
   pub numbers-fit-is : (m : ℕ) (a b c x r : Bool) → m ≡ most64 → a ≡ maybeFits m (drop 10 ws) → b ≡ maybeFits m (drop 12 ws) → c ≡ maybeFits m (drop 23 ws) → x ≡ (b && c) → r ≡ (a && x) → r ≡ numbersFit ws
   numbers-fit-is m a b c x r em ea eb ec ex er = simp (er, ex, ec, eb, ea, em)
 
-  pub head-fits-is : (j k w l s n z u r : Bool) → j ≡ wide2 ws → k ≡ wide2 (drop 2 ws) → w ≡ (j && k) → l ≡ (leb (getD ws 9 0) most32 && (leb (getD ws 21 0) most32 && leb (getD ws 22 0) most32)) → s ≡ siteFits (drop 4 ws)
-      → n ≡ numbersFit ws → z ≡ (s && n) → u ≡ (l && z) → r ≡ (w && u) → r ≡ headFits ws
-  head-fits-is j k w l s n z u r ej ek ew el es en ez eu er = simp (er, eu, ez, ew, en, es, el, ek, ej)
+  pub head-fits-is : (j k w l s u r : Bool) → j ≡ wide2 ws → k ≡ wide2 (drop 2 ws) → w ≡ (j && k) → l ≡ (leb (getD ws 9 0) most32 && (leb (getD ws 21 0) most32 && leb (getD ws 22 0) most32)) → s ≡ siteFits (drop 4 ws)
+      → u ≡ (l && s) → r ≡ (w && u) → r ≡ headFits ws
+  head-fits-is j k w l s u r ej ek ew el es eu er = simp (er, eu, ew, es, el, ek, ej)
 
-  pub row-fits-is : (h v r : Bool) → h ≡ headFits ws → v ≡ verdictFits (drop 14 ws) → r ≡ (h && v) → r ≡ rowFits ws
+  pub row-fits-is : (h n v x r : Bool) → h ≡ headFits ws → n ≡ numbersFit ws → v ≡ verdictFits (drop 14 ws) → x ≡ (n && v) → r ≡ (h && x) → r ≡ rowFits ws
   unfolding rowFits
-  row-fits-is h v r eh ev er =
+  row-fits-is h n v x r eh en ev ex er =
       let k = wide2 ws && wide2 (drop 2 ws) in let l = leb (getD ws 9 0) most32 && (leb (getD ws 21 0) most32 && leb (getD ws 22 0) most32) in
-      er ∙ ap₂ {C = Bool} (λ x y. x && y) eh ev ∙ last-of-four k l (siteFits (drop 4 ws)) (numbersFit ws) (verdictFits (drop 14 ws))
+      er ∙ ap₂ {C = Bool} (λ a b. a && b) eh (ex ∙ ap₂ {C = Bool} (λ a b. a && b) en ev) ∙ behind-three k l (siteFits (drop 4 ws)) (numbersFit ws && verdictFits (drop 14 ws))
 
   pub row-is : (k : List ℕ) (h : Heard) (v : Judged) (i : EpochId) (c : JudgedAt) (p n : ℕ) → k ≡ keyOf ws → h ≡ heardOf ws → v ≡ verdictOf (drop 14 ws) → i ≡ idOf (drop 23 ws) → c ≡ clockOf i → p ≡ low32 (getD ws 21 0) → n ≡ low32 (getD ws 22 0)
       → record { key = k; part = record { heard = h; verdict = v; «judged_ms» = c }; prev = p; next = n } ≡ rowOf ws

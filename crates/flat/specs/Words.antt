@@ -166,9 +166,9 @@ rowFits ws =
     && ((leb (at ws 9) most32 && (leb (at ws 21) most32 && leb (at ws 22) most32))
     && (siteFits (drop 4 ws) && (numbersFit ws && verdictFits (drop 14 ws))))
 
--- the same of all but the verdict
+-- the same of key, site, generation and links alone
 abbrev pub headFits : List ℕ → Bool
-headFits ws = (wide2 ws && wide2 (drop 2 ws)) && ((leb (at ws 9) most32 && (leb (at ws 21) most32 && leb (at ws 22) most32)) && (siteFits (drop 4 ws) && numbersFit ws))
+headFits ws = (wide2 ws && wide2 (drop 2 ws)) && ((leb (at ws 9) most32 && (leb (at ws 21) most32 && leb (at ws 22) most32)) && siteFits (drop 4 ws))
 
 abbrev pub heardOf : List ℕ → Heard
 heardOf ws = record { site = siteOf (drop 4 ws); generation = low32 (at ws 9); even = idOf (drop 10 ws); odd = idOf (drop 12 ws) }

@@ -571,7 +571,7 @@ fn links_fit(words: &[u64]) -> bool
     rows::both(g, rows::both(p, n))
 }
 
-fn numbers_fit(words: &[u64]) -> bool
+pub fn numbers_fit(words: &[u64]) -> bool
     requires { ⌜ 25 ≤ length (now words) ⌝ }
     ensures { λ r. ⌜ r ≡ row.numbersFit (now (words .entry)) ⌝ }
 {
@@ -582,7 +582,7 @@ fn numbers_fit(words: &[u64]) -> bool
     rows::both(even, rows::both(odd, clock))
 }
 
-// All but the verdict. A look at a row asks this and the verdict apart: each is short enough to be compiled in its place.
+// Key, site, generation and links. A look at a row asks this, the numbers and the verdict apart: each is short enough to be compiled in its place.
 pub fn head_fits(words: &[u64]) -> bool
     requires { ⌜ 25 ≤ length (now words) ⌝ }
     ensures { λ r. ⌜ r ≡ headFits (now (words .entry)) ⌝ }
@@ -590,8 +590,7 @@ pub fn head_fits(words: &[u64]) -> bool
     let key = rows::both(wide2(words, 0), wide2(words, 2));
     let links = links_fit(words);
     let site = site_fits(words, 4);
-    let numbers = numbers_fit(words);
-    rows::both(key, rows::both(links, rows::both(site, numbers)))
+    rows::both(key, rows::both(links, site))
 }
 
 pub fn row_fits(words: &[u64]) -> bool
@@ -599,8 +598,9 @@ pub fn row_fits(words: &[u64]) -> bool
     ensures { λ r. ⌜ r ≡ rowFits (now (words .entry)) ⌝ }
 {
     let head = head_fits(words);
+    let numbers = numbers_fit(words);
     let verdict = verdict_fits(words, 14);
-    rows::both(head, verdict)
+    rows::both(head, rows::both(numbers, verdict))
 }
 
 fn heard_at(words: &[u64]) -> Heard

@@ -148,8 +148,9 @@ pub fn look_at(rows: &[u64], at: u32, key: &[u64; 4]) -> Glance
     let a = flat::start_of(at);
     let z = flat::end_of(at);
     let head = flat::head_fits(&rows[a..z]);
+    let numbers = flat::numbers_fit(&rows[a..z]);
     let verdict = flat::verdict_fits(&rows[a..z], 14);
-    let good = rows::both(head, verdict);
+    let good = rows::both(head, rows::both(numbers, verdict));
     if good {
         return glance_of(&rows[a..z], key);
     }
@@ -177,9 +178,14 @@ fn store_part(words: &mut [u64], part: Part)
     flat::put_clock(words, kept);
 }
 
+// A link that is none is no row: nothing is stored there, and nothing opened.
 pub fn set_links(rows: &mut [u64], at: u32, p: u32, n: u32)
     ensures { λ _. ⌜ (rowsOf (now (rows .exit)) ≡ set (rowsOf (now (rows .entry))) at (withLinks (getD (rowsOf (now (rows .entry))) at blank) p n)) × (length (now (rows .exit)) ≡ length (now (rows .entry))) ⌝ }
 {
+    let bad = flat::outside(rows, at);
+    if bad {
+        return;
+    }
     let good = fits_at(rows, at);
     if good {
         let a = flat::start_of(at);

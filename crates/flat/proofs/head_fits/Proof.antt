@@ -19,20 +19,14 @@ links-fit-requires c κs = search needs
 site-fits-requires : tie.Need-site-fits-requires
 site-fits-requires c κs = search needs
 
-numbers-fit-requires : tie.Need-numbers-fit-requires
-numbers-fit-requires c κs = search needs
-
 both-requires-2 : tie.Need-both-requires-2
 both-requires-2 c κs = search needs
 
 both-requires-3 : tie.Need-both-requires-3
 both-requires-3 c κs = search needs
 
-both-requires-4 : tie.Need-both-requires-4
-both-requires-4 c κs = search needs
-
 returns : tie.Need-returns
 returns c = search (head-fits-is, needs)
 
 pub head-fits-spec : {M : Type 1} → statement M
-head-fits-spec = tie.close (tie.spec wide2-requires wide2-requires-2 both-requires links-fit-requires site-fits-requires numbers-fit-requires both-requires-2 both-requires-3 both-requires-4 returns)
+head-fits-spec = tie.close (tie.spec wide2-requires wide2-requires-2 both-requires links-fit-requires site-fits-requires both-requires-2 both-requires-3 returns)

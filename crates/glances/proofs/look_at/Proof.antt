@@ -27,6 +27,21 @@ part-head-fits-end c = search (end-in, needs)
 head-fits-requires : tie.Need-head-fits-requires
 head-fits-requires c κs = search (part-wide, needs)
 
+mul-numbers-fit : tie.Need-mul-numbers-fit
+mul-numbers-fit c = search (start-fits, needs)
+
+sub-numbers-fit : tie.Need-sub-numbers-fit
+sub-numbers-fit c = search needs
+
+part-numbers-fit-start : tie.Need-part-numbers-fit-start
+part-numbers-fit-start c = search needs
+
+part-numbers-fit-end : tie.Need-part-numbers-fit-end
+part-numbers-fit-end c = search (end-in, needs)
+
+numbers-fit-requires : tie.Need-numbers-fit-requires
+numbers-fit-requires c κs = search (part-wide, needs)
+
 mul-verdict-fits : tie.Need-mul-verdict-fits
 mul-verdict-fits c = search (start-fits, needs)
 
@@ -44,6 +59,9 @@ verdict-fits-requires c κs = search (part-verdict, needs)
 
 both-requires : tie.Need-both-requires
 both-requires c κs = search needs
+
+both-requires-2 : tie.Need-both-requires-2
+both-requires-2 c κs = search needs
 
 mul-glance-of : tie.Need-mul-glance-of
 mul-glance-of c = search (start-fits, needs)
@@ -80,12 +98,18 @@ look-at-spec =
     part-head-fits-start
     part-head-fits-end
     head-fits-requires
+    mul-numbers-fit
+    sub-numbers-fit
+    part-numbers-fit-start
+    part-numbers-fit-end
+    numbers-fit-requires
     mul-verdict-fits
     sub-verdict-fits
     part-verdict-fits-start
     part-verdict-fits-end
     verdict-fits-requires
     both-requires
+    both-requires-2
     mul-glance-of
     sub-glance-of
     part-glance-of-start
