@@ -30,7 +30,7 @@ use Rattle.grammar.specs.declared.place.Two.{Two}
 use Rattle.grammar.specs.declared.place.Four.{Four}
 use Rattle.grammar.specs.declared.place.SiteHeld.{SiteHeld}
 use Rattle.grammar.specs.Fields.{startAt, wholeAt, smallAt, linkAt, feetAt, keyAt, endedAt, twoAt, fourAt, claimAt, partAt, linksAt, clockAt}
-use Rattle.grammar.specs.Lines.{wordPlace, wordSame, wordHorizon, wordBucket, wordBit, wordFresh, wordDrop, wordCheck, wordTakeout, wordClaim, wordPosition, wordJudging, wordTurn, wordWatch, wordDigest, wordLend, wordRow, wordCell, wordEnds, pickOf, whichSingle, whichCall, whichLent, whichOf, saying, toldBy, bareLine, keyLine, watchLine, claimLine, positionLine, judgingLine, turnLine, placeLine, sameLine, horizonLine, bucketLine, bitLine, lendLine, rowLine, cellLine, endsLine, lineBy, callOf, returnAtEnd, textBy, textOf, lineOf}
+use Rattle.grammar.specs.Lines.{wordPlace, wordSame, wordHorizon, wordBucket, wordBit, wordFresh, wordDrop, wordCheck, wordTakeout, wordClaim, wordPosition, wordJudging, wordTurn, wordWatch, wordDigest, wordLend, wordRow, wordCell, wordEnds, pickOf, whichSingle, whichCall, whichLent, whichOf, saying, toldBy, bareLine, keyLine, watchLine, claimLine, positionLine, judgingLine, turnLine, placeLine, sameLine, horizonLine, bucketLine, bitLine, lendLine, rowPart, rowLine, cellLine, endsLine, lineBy, callOf, returnAtEnd, textBy, textOf, lineOf}
 
 -- ---- the words
 pub which-single : (w : List ℕ) (other k1 k2 k3 k4 k5 : Kind) → k1 ≡ pickOf w wordPlace kind.Place other → k2 ≡ pickOf w wordSame kind.Same k1 → k3 ≡ pickOf w wordHorizon kind.Horizon k2 → k4 ≡ pickOf w wordBucket kind.Bucket k3 → k5 ≡ pickOf w wordBit kind.Bit k4 → k5 ≡ whichSingle w other
