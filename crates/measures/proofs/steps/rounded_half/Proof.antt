@@ -1,11 +1,9 @@
 -- `steps::rounded_half` meets its contract: the shifted digits of y's pattern are y without its fraction. Assumes nothing.
 use mathlib.Core.Path.{_≡_, sym, ap, subst}
-use Prim.Native.Nat.{ℕ, _+_, _/_, _^_, _<_}
+use Prim.Native.Nat.{ℕ, _+_, _/_}
 use native.Mathlib.Omega.{arith}
 use lib.Dec.{T}
 use lib.Ieee.{Float, binary64, fits, le}
-use mir.Syntax.{w64}
-use mir.Val.{Fits}
 use Rattle.std.proofs.num.Truncating.{one, at-least-one, under-one, is-no-nan, down-by, cut-down, below-one}
 use Rattle.measures.proofs.Digits.{Whole, whole}
 use Rattle.measures.proofs.steps.rounded_half.Statement.{statement}
@@ -33,10 +31,7 @@ shr-result : tie.Need-shr-result
 shr-result c = down-by (y c) (held c) (over c) (is c .wide)
 
 add-result : tie.Need-add-result
-add-result c = subst (λ (n : ℕ). Fits w64 (n + 1)) (sym (cut-down (y c) (held c) (over c) (is c .wide) (is c .low))) (more _ (is c .whole-lt))
-  where
-    more : (n : ℕ) → n < 2 ^ 53 → Fits w64 (n + 1)
-    more n h = omega arith
+add-result c = omega (arith, cut-down (y c) (held c) (over c) (is c .wide) (is c .low), is c .whole-lt)
 
 returns : tie.Need-returns
 returns c = ap (λ (n : ℕ). (n + 1) / 2) (cut-down (y c) (held c) (over c) (is c .wide) (is c .low))
