@@ -128,8 +128,14 @@ fn tick(
     }
 }
 
-/// What is done to a watch between ticks.
-fn change(rng: &mut Rng, kept: &mut Kept, model: &mut Model, keys: &[Key], tick: u64) -> bool {
+/// What is done to a watch between ticks, the so many-th time: judgings are half an hour apart, so that none is too soon.
+fn change(
+    rng: &mut Rng,
+    kept: &mut Kept,
+    model: &mut Model,
+    keys: &[Key],
+    (tick, times): (u64, u64),
+) -> bool {
     let key = rng.pick(keys);
     let held = model.row_of(&key);
     let mut lent: Lent<'_> = kept.lent();
@@ -142,7 +148,7 @@ fn change(rng: &mut Rng, kept: &mut Kept, model: &mut Model, keys: &[Key], tick:
             held.iter().for_each(|row| model.mark(*row));
             lent.position(&key, &HEARD).is_ok() == held.is_some()
         }
-        5 => lent.judging(&key, 1_800_000, 15).is_ok() == held.is_some(),
+        5 => lent.judging(&key, times * 1_800_000, 15).is_ok() == held.is_some(),
         6 => {
             held.iter().for_each(|row| model.release(*row, tick));
             lent.take_out(&key).is_ok() == held.is_some()
@@ -238,7 +244,7 @@ impl Seen {
             }
             for _ in 0..rng.below(3) {
                 self.changes += 1;
-                if !change(rng, kept, model, keys, self.ticks) {
+                if !change(rng, kept, model, keys, (self.ticks, self.changes)) {
                     self.failures
                         .add(&format!("turns: after tick {}: a call", self.ticks));
                 }

@@ -235,7 +235,7 @@ mod tests {
     /// Each refusal comes back from its number.
     #[test]
     fn refusals_have_the_papers_numbers() {
-        for (number, refusal) in [1, 2, 3, 4, 5, 6, 7, 9].into_iter().zip(Refusal::ALL) {
+        for (number, refusal) in (1..=9).zip(Refusal::ALL) {
             assert_eq!(refusal.number(), number);
             assert_eq!(Refusal::of(u64::from(number)), refusal);
             assert!(
