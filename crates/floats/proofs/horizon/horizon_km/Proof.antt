@@ -4,18 +4,23 @@ use borrow.Author.Needs.{needs}
 use Rattle.floats.proofs.horizon.horizon_km.Statement.{statement}
 use Rattle.floats.proofs.horizon.horizon_km.Tie as tie
 
-root-of-requires : tie.Need-root-of-requires
-root-of-requires c κs = search needs
+at-least-zero-requires : tie.Need-at-least-zero-requires
+at-least-zero-requires c κs = search needs
 
-root-of-requires-2 : tie.Need-root-of-requires-2
-root-of-requires-2 c κs = search needs
+at-least-zero-requires-2 : tie.Need-at-least-zero-requires-2
+at-least-zero-requires-2 c κs = search needs
+
+sqrt-both-requires : tie.Need-sqrt-both-requires
+sqrt-both-requires c κs = search needs
 
 from-roots-requires : tie.Need-from-roots-requires
 from-roots-requires c κs = search needs
 
 returns : tie.Need-returns
 unfolding horizon
-returns c = rw (c .from-roots .ensures, c .before .root-of2 .ensures, c .before .before .root-of .ensures)
+returns c =
+    let roots = c .before .sqrt-both in
+    rw (c .from-roots .ensures, roots .ensures .0, roots .ensures .1, c .before .before .at-least-zero2 .ensures, c .before .before .before .at-least-zero .ensures)
 
 pub horizon-km-spec : {M : Type 1} → statement M
-horizon-km-spec = tie.close (tie.spec root-of-requires root-of-requires-2 from-roots-requires returns)
+horizon-km-spec = tie.close (tie.spec at-least-zero-requires at-least-zero-requires-2 sqrt-both-requires from-roots-requires returns)
