@@ -324,7 +324,7 @@ fn site_fits(words: &[u64], at: usize) -> bool
     false
 }
 
-pub fn site_at(words: &[u64], at: usize) -> Claimed
+fn site_at(words: &[u64], at: usize) -> Claimed
     requires { ⌜ at + 5 ≤ length (now words) ⌝ }
     ensures { λ r. ⌜ r ≡ siteOf (drop at (now (words .entry))) ⌝ }
 {
@@ -501,7 +501,7 @@ fn run_at(words: &[u64], at: usize) -> Verdict
     }
 }
 
-pub fn verdict_at(words: &[u64], at: usize) -> Judged
+fn verdict_at(words: &[u64], at: usize) -> Judged
     requires { ⌜ at + 7 ≤ length (now words) ⌝ }
     ensures { λ r. ⌜ r ≡ verdictOf (drop at (now (words .entry))) ⌝ }
 {
@@ -577,20 +577,28 @@ pub fn numbers_fit(words: &[u64]) -> bool
 {
     let most = most64();
     let even = maybe_fits(words, 10, most);
-    let odd = maybe_fits(words, 12, most);
-    let clock = maybe_fits(words, 23, most);
-    rows::both(even, rows::both(odd, clock))
+    if even {
+        let odd = maybe_fits(words, 12, most);
+        if odd {
+            return maybe_fits(words, 23, most);
+        }
+    }
+    false
 }
 
-// Key, site, generation and links. A look at a row asks this, the numbers and the verdict apart: each is short enough to be compiled in its place.
+// Key, site, generation and links. Crate `glances` asks this, the numbers and the verdict in turn: each is short enough to be compiled in its place.
 pub fn head_fits(words: &[u64]) -> bool
     requires { ⌜ 25 ≤ length (now words) ⌝ }
     ensures { λ r. ⌜ r ≡ headFits (now (words .entry)) ⌝ }
 {
     let key = rows::both(wide2(words, 0), wide2(words, 2));
-    let links = links_fit(words);
-    let site = site_fits(words, 4);
-    rows::both(key, rows::both(links, site))
+    if key {
+        let links = links_fit(words);
+        if links {
+            return site_fits(words, 4);
+        }
+    }
+    false
 }
 
 pub fn row_fits(words: &[u64]) -> bool

@@ -49,6 +49,14 @@ same-keys ks ws a b c d x y r ea eb ec ed ex ey er =
     let s1 : same (k 1 ++ (k 2 ++ k 3)) (w 1 ++ (w 2 ++ w 3)) ≡ y = same-next (getD ks 1 0) (getD ws 1 0) (k 2 ++ k 3) (w 2 ++ w 3) x (eb .1) (eb .2) s2 ∙ ap (λ (t : Bool). t && x) (sym (eb .0)) ∙ sym ey in
     er ∙ ap (λ (t : Bool). t && y) (ea .0) ∙ sym (same-next (getD ks 0 0) (getD ws 0 0) (k 1 ++ (k 2 ++ k 3)) (w 1 ++ (w 2 ++ w 3)) y (ea .1) (ea .2) s1)
 
+-- the first word tells where it differs
+pub first-differs : (ks ws : List ℕ) (a : Bool) → Word a (getD ks 0 0) (getD ws 0 0) → a ≡ false → false ≡ same (keyOf ks) (keyOf ws)
+unfolding keyOf
+first-differs ks ws a ea f =
+    let k : List ℕ = bytesOf 8 (getD ks 1 0) ++ (bytesOf 8 (getD ks 2 0) ++ bytesOf 8 (getD ks 3 0)) in
+    let w : List ℕ = bytesOf 8 (getD ws 1 0) ++ (bytesOf 8 (getD ws 2 0) ++ bytesOf 8 (getD ws 3 0)) in
+    sym (same-next (getD ks 0 0) (getD ws 0 0) k w (same k w) (ea .1) (ea .2) refl ∙ ap (λ (t : Bool). t && same k w) (sym (ea .0) ∙ f))
+
 -- a key's four words are its own
 words-are : (k : List ℕ) (a b c d : ℕ) → a ≡ wordOf (eight k 0) → b ≡ wordOf (eight k 8) → c ≡ wordOf (eight k 16) → d ≡ wordOf (eight k 24) → a ∷ b ∷ c ∷ d ∷ [] ≡ keyWords k
 unfolding keyWords

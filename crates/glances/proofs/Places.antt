@@ -1,5 +1,6 @@
 -- A row by its number: where all its words fit it is what they open as, and else it is one without links, to be opened whole.
 use mathlib.Core.Path.{_≡_, refl, sym, ap, ap₂, _∙_}
+use mathlib.Core.Logic.{_≢_}
 use Prim.Native.Nat.{ℕ, _+_, _-_, _*_, _<_}
 use native.Mathlib.Omega.{arith}
 use mathlib.Core.Bool.{Bool, true, false, cond, _&&_}
@@ -7,20 +8,28 @@ use mathlib.Core.List.{List, [], _∷_, _++_}
 use borrow.Author.Tests.{leb-false}
 use lib.Dec.{leb}
 use lib.ListN.{length, getD, set, take, drop}
+use lib.Ieee.{binary64, ofBits}
 use Rattle.table.specs.Machine.{same}
 use Rattle.table.specs.Rows.{NONE, zeroKey}
 use Rattle.table.proofs.Tests.{byBool, clash}
+use Rattle.measures.specs.Degrees.{inDegrees}
 use Rattle.sites.specs.declared.Claimed.{Claimed}
+use Rattle.sites.specs.declared.Claimed.the-variants.{Nowhere}
+use Rattle.receiver.specs.declared.WrongBy.the-variants as By
 use Rattle.receiver.specs.declared.Judged.{Judged}
+use Rattle.receiver.specs.declared.Judged.the-variants.{Never}
 use Rattle.receiver.specs.declared.Part.{Part}
 use Rattle.receiver.specs.Heard.{siteFits}
-use Rattle.receiver.specs.Verdict.{verdictFits}
+use Rattle.receiver.specs.Verdict.{stepOf5, byFits, verdictFits}
 use Rattle.rows.specs.declared.Row.{Row}
 use Rattle.rows.specs.Read.{fits}
 use Rattle.rows.specs.Links.{blank, withLinks, withPart}
-use Rattle.flat.specs.Words.{wordsOfRow, bytesOf, keyOf, siteOf, verdictOf, rowFits, rowOf, junk, openedOf}
+use Rattle.flat.specs.Words as row
+use Rattle.flat.specs.Words.{wordsOfRow, low32, bytesOf, keyOf, altitudeOf, siteOf, byOf, runOf, verdictOf, headFits, numbersFit, rowFits, rowOf, junk, openedOf}
 use Rattle.flat.specs.Table.{rowsOf}
+use Rattle.flat.proofs.Opening.{absent, site-some, by-some, verdict-some, third-tells, second-tells, first-tells, row-in-parts}
 use Rattle.flat.proofs.Returns.{junk-unfit}
+use Rattle.flat.proofs.Runs.{further}
 use Rattle.flat.proofs.Rows.{got, not-got, words-are, stored}
 use Rattle.glances.specs.declared.Links.{Links}
 use Rattle.glances.specs.declared.Glance.{Glance}
@@ -98,21 +107,60 @@ module _ (ws : List ℕ) (i : ℕ) (t : Bool) (e : t ≡ fitsAt ws i) where
       pub part-changed : (p : Part) → openedOf ys ≡ withPart (openedOf part) p → rowsOf (take a ws ++ (ys ++ drop (z - a) (drop a ws))) ≡ set (rowsOf ws) i (withPart (getD (rowsOf ws) i blank) p)
       part-changed p = changed (λ r. withPart r p)
 
--- A LOOK AT A ROW
-module _ (ws : List ℕ) (i a z : ℕ) (t : Bool) (h : i < length (rowsOf ws)) (ea : a ≡ wordsOfRow * i) (ez : z ≡ wordsOfRow * i + wordsOfRow) (e : t ≡ rowFits (take (z - a) (drop a ws))) where
-  opened-is : openedOf (take (z - a) (drop a ws)) ≡ getD (rowsOf ws) i blank
-  opened-is = got ws i a z h ea ez (openedOf (take (z - a) (drop a ws))) refl
+-- A LOOK AT A ROW'S WORDS. They fit where their three parts do; asked in turn, the first that does not fit tells.
+module _ (ws : List ℕ) (h : Bool) (eh : h ≡ headFits ws) where
+  pub head-unfit : h ≡ false → false ≡ rowFits ws
+  head-unfit th = first-tells _ _ h eh th ∙ row-in-parts ws
 
-  pub look-fits : (k : List ℕ) (r : Glance) → t ≡ true → r ≡ glanceOf k (rowOf (take (z - a) (drop a ws))) → r ≡ glanceOf k (getD (rowsOf ws) i blank)
-  look-fits k r f g = g ∙ ap (glanceOf k) (sym (opened-fit (take (z - a) (drop a ws)) (sym e ∙ f)) ∙ opened-is)
+  module _ (n : Bool) (th : h ≡ true) (en : n ≡ numbersFit ws) where
+    pub numbers-unfit : n ≡ false → false ≡ rowFits ws
+    numbers-unfit tn = second-tells _ _ _ h n eh th en tn ∙ row-in-parts ws
 
-  pub look-junk : (k : List ℕ) (r : Glance) → t ≡ false → r ≡ glanceOf k junk → r ≡ glanceOf k (getD (rowsOf ws) i blank)
-  look-junk k r f g = g ∙ ap (glanceOf k) (sym (opened-junk (take (z - a) (drop a ws)) (sym e ∙ f)) ∙ opened-is)
+    pub verdict-decides : (v : Bool) → n ≡ true → v ≡ row.verdictFits (drop 14 ws) → v ≡ rowFits ws
+    verdict-decides v tn ev = third-tells _ _ _ h n v eh th en tn ev ∙ row-in-parts ws
 
--- WHAT IS READ OF A ROW THAT FITS
-pub sound-is : (ws : List ℕ) (s : Claimed) (v : Judged) (x y r : Bool) → s ≡ siteOf (drop 4 ws) → v ≡ verdictOf (drop 14 ws) → x ≡ siteFits s → y ≡ verdictFits v → r ≡ (x && y) → r ≡ fits (rowOf ws .part)
-unfolding rowOf
-sound-is ws s v x y r es ev ex ey er = er ∙ ap₂ {C = Bool} (λ p q. p && q) (ex ∙ ap siteFits es) (ey ∙ ap verdictFits ev)
+module _ (ws k : List ℕ) (r : Glance) (t : Bool) (e : t ≡ rowFits ws) where
+  pub seen : t ≡ true → r ≡ glanceOf k (rowOf ws) → r ≡ glanceOf k (openedOf ws)
+  seen f g = g ∙ ap (glanceOf k) (sym (opened-fit ws (sym e ∙ f)))
+
+  pub seen-junk : t ≡ false → r ≡ glanceOf k junk → r ≡ glanceOf k (openedOf ws)
+  seen-junk f g = g ∙ ap (glanceOf k) (sym (opened-junk ws (sym e ∙ f)))
+
+-- the words of row i
+pub look-seen : (ws k : List ℕ) (i a z : ℕ) (r : Glance) → i < length (rowsOf ws) → a ≡ wordsOfRow * i → z ≡ wordsOfRow * i + wordsOfRow → r ≡ glanceOf k (openedOf (take (z - a) (drop a ws))) → r ≡ glanceOf k (getD (rowsOf ws) i blank)
+look-seen ws k i a z r h ea ez g = g ∙ ap (glanceOf k) (got ws i a z h ea ez (openedOf (take (z - a) (drop a ws))) refl)
+
+-- QUESTION 2 OF A ROW'S PART, BY ITS WORDS
+module _ (ws : List ℕ) where
+  pub site-none : getD ws 4 0 ≡ 0 → true ≡ siteFits (siteOf (drop 4 ws))
+  unfolding siteOf
+  site-none h = ap siteFits (absent ws 4 Nowhere _ h)
+
+  pub site-held : (r : Bool) → getD ws 4 0 ≢ 0 → r ≡ inDegrees (ofBits binary64 (getD ws 5 0)) (ofBits binary64 (getD ws 6 0)) → r ≡ siteFits (siteOf (drop 4 ws))
+  site-held r h e = e ∙ ap siteFits (site-some ws 4 (ofBits binary64 (getD ws 5 0)) (ofBits binary64 (getD ws 6 0)) (altitudeOf (drop 7 ws)) h refl refl refl)
+
+  pub verdict-none : getD ws 14 0 ≡ 0 → true ≡ verdictFits (verdictOf (drop 14 ws))
+  unfolding verdictOf
+  verdict-none h = ap verdictFits (absent ws 14 Never _ h)
+
+  held-by : getD ws 14 0 ≢ 0 → byFits (byOf (drop 18 ws)) ≡ verdictFits (verdictOf (drop 14 ws))
+  unfolding runOf
+  held-by h = ap (λ (l : List ℕ). byFits (byOf l)) (sym (further ws 14 4)) ∙ ap verdictFits (verdict-some ws 14 (runOf (drop 14 ws)) h refl)
+
+  pub distance-none : getD ws 14 0 ≢ 0 → getD ws 18 0 ≡ 0 → true ≡ verdictFits (verdictOf (drop 14 ws))
+  unfolding byOf
+  distance-none h d = ap byFits (absent ws 18 By.Nothing _ d) ∙ held-by h
+
+  pub distance-held : (n : ℕ) (r : Bool) → getD ws 14 0 ≢ 0 → getD ws 18 0 ≢ 0 → n ≡ low32 (getD ws 19 0) → r ≡ stepOf5 n → r ≡ verdictFits (verdictOf (drop 14 ws))
+  distance-held n r h d en er = er ∙ ap byFits (by-some ws 18 n d en) ∙ held-by h
+
+  pub site-tells : (s : Bool) → s ≡ siteFits (siteOf (drop 4 ws)) → s ≡ false → false ≡ fits (rowOf ws .part)
+  unfolding rowOf
+  site-tells s es ts = first-tells _ _ s es ts
+
+  pub verdict-tells : (s r : Bool) → s ≡ siteFits (siteOf (drop 4 ws)) → s ≡ true → r ≡ verdictFits (verdictOf (drop 14 ws)) → r ≡ fits (rowOf ws .part)
+  unfolding rowOf
+  verdict-tells s r es ts er = er ∙ sym (ap (λ (b : Bool). b && verdictFits (verdictOf (drop 14 ws))) (sym es ∙ ts))
 
 pub links-are : (ws : List ℕ) (p n : ℕ) → p ≡ rowOf ws .prev → n ≡ rowOf ws .next → record { prev = p; next = n } ≡ linksOf (rowOf ws)
 links-are ws p n ep en = simp (ep, en)

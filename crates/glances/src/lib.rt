@@ -4,14 +4,18 @@ ghost use mathlib.Core.Path.{_≡_};
 ghost use mathlib.Core.Bool.{true, _&&_};
 ghost use Prim.Native.Nat.{_<_, _≤_};
 ghost use lib.Dec.{eqb};
-ghost use lib.ListN.{length, set, getD};
+ghost use lib.ListN.{length, set, getD, drop};
 ghost use Rattle.table.specs.Machine.{same};
+ghost use Rattle.receiver.specs.Heard.{siteFits};
+ghost use Rattle.receiver.specs.Verdict.{verdictFits};
 ghost use Rattle.rows.specs.Read.{fits};
 ghost use Rattle.rows.specs.Links.{blank, withLinks, withPart, nexted, preved, partedRows};
-ghost use Rattle.flat.specs.Words.{most64, keyOf, rowFits, rowOf, junk, openedOf};
+ghost use Rattle.flat.specs.Words.{most64, keyOf, siteOf, verdictOf, rowFits, rowOf, junk, openedOf};
 ghost use Rattle.flat.specs.Table.{rowsOf};
 ghost use Rattle.glances.specs.Glances.{fitsAt, linksOf, glanceOf};
+use measures::degrees;
 use receiver::Part;
+use receiver::run;
 use rows::Row;
 
 // A row's links.
@@ -90,13 +94,51 @@ fn same_words(words: &[u64], key: &[u64; 4]) -> bool
     rows::both(a, rows::both(b, rows::both(c, d)))
 }
 
+// Of most rows the first word tells.
+fn has_key(words: &[u64], key: &[u64; 4]) -> bool
+    requires { ⌜ 4 ≤ length (now words) ⌝ }
+    ensures { λ r. ⌜ r ≡ same (keyOf (now (key .entry))) (keyOf (now (words .entry))) ⌝ }
+{
+    let first = same_word(words[0], key[0]);
+    if first {
+        return same_words(words, key);
+    }
+    false
+}
+
+// Question 2 of the site and of the verdict, by the words: no site is opened, and no float made of its degrees.
+fn site_sound(words: &[u64]) -> bool
+    requires { ⌜ 25 ≤ length (now words) ⌝ }
+    ensures { λ r. ⌜ r ≡ siteFits (siteOf (drop 4 (now (words .entry)))) ⌝ }
+{
+    if words[4] == 0 {
+        return true;
+    }
+    degrees::bits_in_degrees(words[5], words[6])
+}
+
+fn verdict_sound(words: &[u64]) -> bool
+    requires { ⌜ 25 ≤ length (now words) ⌝ }
+    ensures { λ r. ⌜ r ≡ verdictFits (verdictOf (drop 14 (now (words .entry)))) ⌝ }
+{
+    if words[14] == 0 {
+        return true;
+    }
+    if words[18] == 0 {
+        return true;
+    }
+    run::is_step(flat::low32(words[19]))
+}
+
 fn sound_at(words: &[u64]) -> bool
     requires { ⌜ 25 ≤ length (now words) ⌝ }
     ensures { λ r. ⌜ r ≡ fits (rowOf (now (words .entry)) .part) ⌝ }
 {
-    let site = flat::site_at(words, 4);
-    let verdict = flat::verdict_at(words, 14);
-    rows::both(receiver::site::fits(site), receiver::run::fits(verdict))
+    let site = site_sound(words);
+    if site {
+        return verdict_sound(words);
+    }
+    false
 }
 
 // The four words of a key.
@@ -116,7 +158,7 @@ fn glance_of(words: &[u64], key: &[u64; 4]) -> Glance
 {
     let links = links_of(words);
     let sound = sound_at(words);
-    let same = same_words(words, key);
+    let same = has_key(words, key);
     Glance {
         prev: links.prev,
         next: links.next,
@@ -140,6 +182,33 @@ fn junk_glance(key: &[u64; 4]) -> Glance
     }
 }
 
+// As `flat::row_fits`, for the look alone: compiled in its place, a row that fits passes it by branches.
+fn words_fit(words: &[u64]) -> bool
+    requires { ⌜ 25 ≤ length (now words) ⌝ }
+    ensures { λ r. ⌜ r ≡ rowFits (now (words .entry)) ⌝ }
+{
+    let head = flat::head_fits(words);
+    if head {
+        let numbers = flat::numbers_fit(words);
+        if numbers {
+            return flat::verdict_fits(words, 14);
+        }
+    }
+    false
+}
+
+// The words of a row, as the row that they open as.
+fn look_of(words: &[u64], key: &[u64; 4]) -> Glance
+    requires { ⌜ 25 ≤ length (now words) ⌝ }
+    ensures { λ r. ⌜ r ≡ glanceOf (keyOf (now (key .entry))) (openedOf (now (words .entry))) ⌝ }
+{
+    let good = words_fit(words);
+    if good {
+        return glance_of(words, key);
+    }
+    junk_glance(key)
+}
+
 // A look at one row for the key of these four words. The pass of question 2 takes one at every row.
 pub fn look_at(rows: &[u64], at: u32, key: &[u64; 4]) -> Glance
     requires { ⌜ at < length (rowsOf (now rows)) ⌝ }
@@ -147,14 +216,7 @@ pub fn look_at(rows: &[u64], at: u32, key: &[u64; 4]) -> Glance
 {
     let a = flat::start_of(at);
     let z = flat::end_of(at);
-    let head = flat::head_fits(&rows[a..z]);
-    let numbers = flat::numbers_fit(&rows[a..z]);
-    let verdict = flat::verdict_fits(&rows[a..z], 14);
-    let good = rows::both(head, rows::both(numbers, verdict));
-    if good {
-        return glance_of(&rows[a..z], key);
-    }
-    junk_glance(key)
+    look_of(&rows[a..z], key)
 }
 
 fn store_links(words: &mut [u64], p: u32, n: u32)

@@ -4,3 +4,4 @@ pub mod Digits
 pub mod Tests
 pub mod Ticks
 pub mod Quotient
+pub mod Patterns

@@ -4,7 +4,7 @@ ghost use mathlib.Core.Bool.{cond};
 ghost use Prim.Native.Nat.{_<_, _^_};
 ghost use lib.Dec.{T};
 ghost use lib.IntN.{pos, negℤ};
-ghost use lib.Ieee.{neg};
+ghost use lib.Ieee.{neg, binary64, ofBits};
 ghost use Rattle.measures.specs.Degrees.{within, inDegrees, tickOf};
 use super::steps;
 
@@ -28,6 +28,17 @@ pub fn in_degrees(lat: f64, lon: f64) -> bool
 {
     if within_90(lat) {
         within_180(lon)
+    } else {
+        false
+    }
+}
+
+// The same of the bits of two floats, with no float made: of the patterns of one sign the order is that of the numbers, and a NaN's stand behind them all.
+pub fn bits_in_degrees(lat: u64, lon: u64) -> bool
+    ensures { λ r. ⌜ r ≡ inDegrees (ofBits binary64 lat) (ofBits binary64 lon) ⌝ }
+{
+    if lat % 9223372036854775808 <= 4636033603912859648 {
+        lon % 9223372036854775808 <= 4640537203540230144
     } else {
         false
     }

@@ -182,7 +182,8 @@ pub fn says(v: Verdict) -> CheckState
     }
 }
 
-fn is_step(d: u32) -> bool
+// A step of 5 from 5 to 800.
+pub fn is_step(d: u32) -> bool
     ensures { λ r. ⌜ r ≡ verdict.stepOf5 d ⌝ }
 {
     if d % 5 == 0 {

@@ -11,8 +11,8 @@ links-of-requires c κs = search needs
 sound-at-requires : tie.Need-sound-at-requires
 sound-at-requires c κs = search needs
 
-same-words-requires : tie.Need-same-words-requires
-same-words-requires c κs = search needs
+has-key-requires : tie.Need-has-key-requires
+has-key-requires c κs = search needs
 
 returns : tie.Need-returns
 unfolding rowOf
@@ -20,4 +20,4 @@ returns c = search (glance-is, needs)
 
 pub glance-of-spec : {M : Type 1} → statement M
 glance-of-spec =
-    tie.close (tie.spec links-of-requires sound-at-requires same-words-requires returns)
+    tie.close (tie.spec links-of-requires sound-at-requires has-key-requires returns)
