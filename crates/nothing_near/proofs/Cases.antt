@@ -6,8 +6,9 @@ use lib.ListN.{getD}
 use Rattle.cells.specs.Cells.{countOf}
 use Rattle.view.specs.declared.Far.{Far}
 use Rattle.plane.specs.Plane.{square, said}
+use Rattle.near_field.specs.Sorted.{insert, ascending}
 use Rattle.nothing_near.specs.declared.Empty.the-variants.{Off, Heard}
-use Rattle.nothing_near.specs.Sorted.{insert, ascending, firstReaching, total}
+use Rattle.nothing_near.specs.Weights.{firstReaching, total}
 use Rattle.nothing_near.specs.Nothing.{Place, km, edges, halfway, cellPlace, binPlace, placesHeard, thirdOrLast, third, fromThird, positionsIn, typicalIn, nothingNearIn, nothingNear}
 use Rattle.nothing_near.proofs.Steps.{odd, isStep, step-is}
 

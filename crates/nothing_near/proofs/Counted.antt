@@ -15,9 +15,10 @@ use Rattle.cells.proofs.Passes.{pass-all}
 use Rattle.view.specs.declared.Far.{Far}
 use Rattle.plane.specs.Plane.{square, fromSite, steps}
 use Rattle.near_field.specs.Near.{cellsWithin}
+use Rattle.near_field.proofs.Sorted.{sumWhere, countWhere, length-where, within}
 use Rattle.nothing_near.specs.Nothing.{Place, nearestOf, typicalOf, positionsOf, km, edges, halfway, cellPlace, binPlace, heard, placesHeard, places, positionsIn}
 use Rattle.nothing_near.specs.Counted.{positionsAmong, occupiedAmong, nearCells, cellStep, binStep}
-use Rattle.nothing_near.proofs.Sorted.{sumWhere, countWhere, within, sum-append, total-where, length-where}
+use Rattle.nothing_near.proofs.Weights.{sum-append, total-where}
 use Rattle.nothing_near.proofs.Sums.{heard-sum}
 use Rattle.nothing_near.proofs.Steps.{every, every-at, limit, steps-within}
 

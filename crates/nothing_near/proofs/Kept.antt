@@ -14,12 +14,14 @@ use Rattle.cells.specs.Cells.{countOf, occupiedWord}
 use Rattle.cells.specs.Passes.{sumOf}
 use Rattle.cells.proofs.Passes.{pass-all}
 use Rattle.view.specs.declared.Far.{Far}
-use Rattle.nothing_near.specs.Sorted.{ascending, total}
+use Rattle.near_field.specs.Sorted.{ascending}
+use Rattle.near_field.proofs.Sorted.{sumWhere, countWhere, sum-ascending, ascending-length}
+use Rattle.nothing_near.specs.Weights.{total}
 use Rattle.nothing_near.specs.Nothing.{Place, nearestOf, positionsOf, cellPlace, binPlace, placesHeard, thirdOrLast, fromThird, positionsIn}
 use Rattle.nothing_near.specs.declared.Spot.{Spot}
 use Rattle.nothing_near.specs.declared.Nearest.{Nearest}
 use Rattle.nothing_near.specs.Counted.{cellStep, binStep, below, allSteps, stepOf, spotOf, noPlace, firstTwo, twoNearest, Kept}
-use Rattle.nothing_near.proofs.Sorted.{sumWhere, countWhere, where-more, sum-ascending, total-where, length-where}
+use Rattle.nothing_near.proofs.Weights.{where-more, total-where}
 use Rattle.nothing_near.proofs.Steps.{step-small}
 use Rattle.nothing_near.proofs.Gathered.{below-suc, raised, bins-below}
 use Rattle.nothing_near.proofs.Counted.{both-sums, only-occupied, positions-counted}
@@ -140,7 +142,7 @@ later l = drop (thirdOrLast l) l
 pub from-third : (l : List Place) → fromThird l ≡ later (ascending nearestOf l)
 unfolding fromThird thirdOrLast
 from-third l =
-    ap (λ (n : ℕ). drop (min 2 (n - 1)) (ascending nearestOf l)) (length-where l ∙ sym (sum-ascending (λ p. true) (λ p. 1) nearestOf l) ∙ sym (length-where (ascending nearestOf l)))
+    ap (λ (n : ℕ). drop (min 2 (n - 1)) (ascending nearestOf l)) (sym (ascending-length nearestOf l))
 
 module _ (at : List ℕ) (sum : ℕ) where
   -- the first has all positions: it is alone

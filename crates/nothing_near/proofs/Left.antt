@@ -8,9 +8,9 @@ use lib.ListN.{length, getD, set, drop, length-set}
 use Rattle.cells.specs.Passes.{first}
 use Rattle.plane.specs.Plane.{steps}
 use Rattle.view.specs.declared.Far.{Far}
+use Rattle.near_field.specs.Sorted.{ascending}
 use Rattle.nothing_near.specs.declared.Spot.{Spot}
 use Rattle.nothing_near.specs.declared.Nearest.{Nearest}
-use Rattle.nothing_near.specs.Sorted.{ascending}
 use Rattle.nothing_near.specs.Nothing.{Place, nearestOf, positionsOf, placesHeard, fromThird, positionsIn, typicalIn}
 use Rattle.nothing_near.specs.Counted.{below, reachedAt, spotOf, firstTwo, Kept}
 use Rattle.nothing_near.proofs.Kept.{Keeps, nth, second-first, first-fits, first-out, fits, from-third, alone, one-out, two-out, kept-in-order}

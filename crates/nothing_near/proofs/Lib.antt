@@ -1,5 +1,5 @@
 -- Laws that the proofs of more than one function cite.
-pub mod Sorted
+pub mod Weights
 pub mod Sums
 pub mod Steps
 pub mod Gathered

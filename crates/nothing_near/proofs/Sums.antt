@@ -12,9 +12,10 @@ use Rattle.cells.specs.Cells.{countOf, occupiedWord}
 use Rattle.cells.specs.Passes.{pass, sumOf}
 use Rattle.cells.proofs.Passes.{sum-step}
 use Rattle.cells.proofs.Words.{count-small}
+use Rattle.near_field.proofs.Sorted.{sumWhere}
 use Rattle.nothing_near.specs.Nothing.{Place, heard}
 use Rattle.nothing_near.specs.Counted.{positionsAmong}
-use Rattle.nothing_near.proofs.Sorted.{sumWhere, sum-append, sum-one}
+use Rattle.nothing_near.proofs.Weights.{sum-append, sum-one}
 
 bounded : (b : Bool) (s k n : ℕ) → k ≤ 255 → s ≤ 255 * n → cond b (s + k) s ≤ 255 * suc n
 bounded true s k n h l = omega arith

@@ -10,10 +10,10 @@ use lib.Dec.{leb, ltb, leb·suc-suc}
 use lib.ListN.{length}
 use Rattle.view.specs.declared.Far.{Far}
 use Rattle.plane.specs.Plane.{square}
-use Rattle.nothing_near.specs.Sorted.{total}
+use Rattle.near_field.proofs.Sorted.{element-within}
+use Rattle.nothing_near.specs.Weights.{total}
 use Rattle.nothing_near.specs.Nothing.{Place, nearestOf, km, placesHeard, places, thirdOrLast, third, positionsIn}
 use Rattle.nothing_near.specs.Counted.{nearCells}
-use Rattle.nothing_near.proofs.Sorted.{element-within}
 use Rattle.nothing_near.proofs.Counted.{near-counted}
 
 some-place : (l : List Place) → 0 < positionsIn l → 0 < length l

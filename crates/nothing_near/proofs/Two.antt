@@ -16,12 +16,12 @@ use Rattle.cells.proofs.Passes.{lt-or-ge, pass-next, pass-skip, first-unique}
 use Rattle.plane.specs.Plane.{square, steps, eastOf, northOf, apart, fromSite}
 use Rattle.plane.proofs.Squares.{square-le}
 use Rattle.view.specs.declared.Far.{Far}
+use Rattle.near_field.specs.Sorted.{insert, ascending}
+use Rattle.near_field.proofs.Sorted.{From, from-ascending}
 use Rattle.nothing_near.specs.declared.Spot.{Spot}
 use Rattle.nothing_near.specs.declared.Nearest.{Nearest}
-use Rattle.nothing_near.specs.Sorted.{insert, ascending}
 use Rattle.nothing_near.specs.Nothing.{Place, nearestOf, km, edges, cellPlace, binPlace, heard, placesHeard}
 use Rattle.nothing_near.specs.Counted.{positionsAmong, cellStep, binStep, stepOf, spotOf, noPlace, cellSpot, binSpot, firstTwo, twoNearest, put, nearer, nearestAmong}
-use Rattle.nothing_near.proofs.Sorted.{From, from-ascending}
 use Rattle.nothing_near.proofs.Sums.{none-behind}
 use Rattle.nothing_near.proofs.Steps.{every, every-at}
 

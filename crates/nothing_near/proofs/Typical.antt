@@ -11,9 +11,10 @@ use lib.ListN.{getD}
 use Rattle.cells.specs.Passes.{first}
 use Rattle.cells.proofs.Passes.{first-unique}
 use Rattle.plane.specs.Plane.{steps}
+use Rattle.near_field.proofs.Sorted.{within}
 use Rattle.nothing_near.specs.Nothing.{Place, typicalOf, positionsOf, positionsIn, typicalIn}
 use Rattle.nothing_near.specs.Counted.{below, reachedAt, stepOf}
-use Rattle.nothing_near.proofs.Sorted.{within, reaching-within, where-same}
+use Rattle.nothing_near.proofs.Weights.{where-same, reaching-within}
 use Rattle.nothing_near.proofs.Gathered.{below-suc}
 use Rattle.nothing_near.proofs.Kept.{Gathers}
 use Rattle.nothing_near.proofs.Steps.{limit, steps-within, step-small}

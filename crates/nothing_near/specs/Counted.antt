@@ -9,11 +9,11 @@ use lib.ListN.{getD, set, replicate}
 use Rattle.cells.specs.Cells.{countOf, occupiedWord}
 use Rattle.cells.specs.Passes.{pass, sumOf, howMany}
 use Rattle.plane.specs.Plane.{fromSite, steps}
+use Rattle.near_field.specs.Sorted.{ascending}
 use Rattle.near_field.specs.Near.{cellsWithin}
 use Rattle.view.specs.declared.Far.{Far}
 use Rattle.nothing_near.specs.declared.Spot.{Spot}
 use Rattle.nothing_near.specs.declared.Nearest.{Nearest}
-use Rattle.nothing_near.specs.Sorted.{ascending}
 use Rattle.nothing_near.specs.Nothing.{Place, nearestOf, typicalOf, positionsOf, km, edges, halfway, placesHeard, positionsIn}
 
 -- the positions of the first n words, and how many of them are occupied

@@ -1,4 +1,4 @@
 -- The definitions that the contracts cite.
-pub mod Sorted
+pub mod Weights
 pub mod Nothing
 pub mod Counted

@@ -10,7 +10,8 @@ use Rattle.cells.specs.Cells.{countOf, occupiedWord}
 use Rattle.cells.specs.Passes.{pass}
 use Rattle.view.specs.declared.Far.{Far}
 use Rattle.plane.specs.Plane.{square, fromSite, said}
-use Rattle.nothing_near.specs.Sorted.{ascending, firstReaching, total}
+use Rattle.near_field.specs.Sorted.{ascending}
+use Rattle.nothing_near.specs.Weights.{firstReaching, total}
 use Rattle.nothing_near.specs.declared.Empty.{Empty}
 use Rattle.nothing_near.specs.declared.Empty.the-variants.{Off, Heard}
 

@@ -1,20 +1,10 @@
--- Lists in order of a number that each element has, and running sums over them. Definitions only.
+-- Running sums over elements that have a key and a weight. Definitions only.
 use Prim.Native.Nat.{ℕ, _+_, _*_}
 use mathlib.Core.Bool.{cond}
 use mathlib.Core.List.{List, [], _∷_}
 use lib.Dec.{leb}
 
 module _ {A : Type 0} (key : A → ℕ) where
-  -- a put before the first that is not less
-  unfoldable pub insert : A → List A → List A
-  insert a [] = a ∷ []
-  insert a (b ∷ l) = cond (leb (key a) (key b)) (a ∷ b ∷ l) (b ∷ insert a l)
-
-  -- ascending by key; equal ones keep their order
-  unfoldable pub ascending : List A → List A
-  ascending [] = []
-  ascending (a ∷ l) = insert a (ascending l)
-
   -- the key of the first of a list at which twice the weights passed, those passed before it with them, reach a total; 0 where none does
   unfoldable pub firstReaching : (A → ℕ) → ℕ → ℕ → List A → ℕ
   firstReaching weight total passed [] = 0
