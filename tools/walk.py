@@ -230,7 +230,7 @@ unfolding code.routine
 def used(line, rest):
     # of a `use` line, the names that the rest of the file has
     m = re.match(r'(use \S+)\.\{(.*)\}$', line)
-    has = lambda n: re.search(r'(?<![^\s(){}.,])%s(?![^\s(){}.,])' % re.escape(n.strip('_') if n.startswith('_') else n), rest)
+    has = lambda n: re.search(r'(?<![^\s(){}.,;])%s(?![^\s(){}.,;])' % re.escape(n.strip('_') if n.startswith('_') else n), rest)
     if not m:
         n = line.rsplit(' as ', 1)[-1] if ' as ' in line else None
         return line if n is None or re.search(r'(?<![^\s()])%s\.' % re.escape(n), rest) or has(n) else None

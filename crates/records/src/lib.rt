@@ -32,7 +32,7 @@ fn outside(i: usize, n: usize) -> bool
 
 // ---- a row of the table
 
-fn row_at(rows: &[Row], i: usize) -> Row
+pub fn row_at(rows: &[Row], i: usize) -> Row
     requires { ⌜ i < length (now rows) ⌝ }
     ensures { λ r. ⌜ r ≡ getD (now (rows .entry)) i blank ⌝ }
 {

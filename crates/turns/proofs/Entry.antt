@@ -30,8 +30,8 @@ use Rattle.flat.specs.Table.{rowsFrom, rowsOf}
 use Rattle.turns.specs.declared.Turned.the-variants.{Named}
 use Rattle.turns.specs.Turn.{startOf, namedBy, named, isIn, isUsed, keysOf, written, holds, nextOf, question8, refusal, acceptance, turnOn, Tick}
 use Rattle.turns.specs.Passes.{markAll, passed}
-use Rattle.turns.proofs.Numbers.{start-below, onward-is}
-use Rattle.turns.proofs.Passes.{marks-tell, all-passed}
+use Rattle.turns.proofs.Numbers.{onward, start-below, onward-is}
+use Rattle.turns.proofs.Passes.{marks-tell, ahead, from-start, all-passed}
 
 -- EVERY KEY HAS 32 BYTES
 bytes-long : (n w : ℕ) → length (bytesOf n w) ≡ n
@@ -110,9 +110,12 @@ module _ (xs : List Row) (ys ws : List ℕ) (e : Ends) (key : Key) (l : Look) (e
   w : Watch Part
   w = watchOf xs ys e
 
-  same-watch : turnOn form w next k list ≡ turnOn form (watchIs xs ys ws) next k list
+  same : w ≡ watchIs xs ys ws
   unfolding w
-  same-watch = ap {B = Tick} (λ z. turnOn form (record { rows = map rowIs xs; cells = ys; ends = z }) next k list) ends-are
+  same = ap {B = Watch Part} (λ z. record { rows = map rowIs xs; cells = ys; ends = z }) ends-are
+
+  same-watch : turnOn form w next k list ≡ turnOn form (watchIs xs ys ws) next k list
+  same-watch = ap (λ (z : Watch Part). turnOn form z next k list) same
 
   looked : l ≡ lookedIn w (key .bytes)
   unfolding w
@@ -157,14 +160,24 @@ module _ (xs : List Row) (ys ws : List ℕ) (e : Ends) (key : Key) (l : Look) (e
         pub first-row : (s : ℕ) → s ≡ startOf n next → s < n
         first-row s e = subst (λ (i : ℕ). i < n) (sym e) (start-below n next some-row)
 
-        -- accepted
-        pub turn-passes : (long : (i : ℕ) → length (getD xs i blank .key) ≡ 32) (d s : ℕ) (marks : List Bool) (out : Tick) → d ≡ e .head → ((used : List ℕ) → chain unmadePart (map rowIs xs) n d ≡ some used → marks ≡ markAll used (replicate 4096 false)) → s ≡ startOf n next → out ≡ passed marks xs n k s 0 list → out ≡ turnOn form (watchIs xs ys ws) next k list
-        unfolding w
-        turn-passes long d s marks out ed em es eo =
-            eo ∙ ap (λ (i : ℕ). passed marks xs n k i 0 list) es ∙ all-passed xs w refl long marks n tells k (startOf n next) list (start-below n next some-row) room
-            ∙ ap (λ (m : ℕ). record { answer = Named (length (keysOf form w (named n (startOf n next) k))) m; list = written (keysOf form w (named n (startOf n next) k)) list }) (onward-is n k (startOf n next) (start-below n next some-row))
+        -- accepted: the keys of the used rows among those named, from the start of the list
+        pub turn-ahead : (s : ℕ) → s ≡ startOf n next → ahead 0 list (keysOf form (watchIs xs ys ws) (named n s k)) (onward n k s) ≡ turnOn form (watchIs xs ys ws) next k list
+        turn-ahead s es =
+            ap (λ (z : Watch Part). ahead 0 list (keysOf form z (named n s k)) (onward n k s)) (sym same)
+            ∙ ap (λ (i : ℕ). ahead 0 list (keysOf form w (named n i k)) (onward n k i)) es
+            ∙ from-start (keysOf form w (namedBy n next k)) (onward n k (startOf n next)) list
+            ∙ ap (λ (m : ℕ). record { answer = Named (length (keysOf form w (namedBy n next k))) m; list = written (keysOf form w (namedBy n next k)) list }) (onward-is n k (startOf n next) (start-below n next some-row))
             ∙ ap (λ (c : ℕ). record { answer = Named (length (keysOf form w (namedBy c next k))) (nextOf c next k); list = written (keysOf form w (namedBy c next k)) list }) all
             ∙ accepted ∙ same-watch
+          where
+            accepted : acceptance form w next k list ≡ turnOn form w next k list
+            accepted = let p = pass .one in let s = pass .two in let u = may in rw (p, s, u)
+
+        -- the marks of the used chain tell the used rows
+        pub tells : (d : ℕ) (marks : List Bool) → d ≡ e .head → ((used : List ℕ) → chain unmadePart (map rowIs xs) n d ≡ some used → marks ≡ markAll used (replicate 4096 false)) → (i : ℕ) → i < n → getD marks i false ≡ isUsed form (watchIs xs ys ws) i
+        unfolding w
+        tells d marks ed em i q =
+            ap (λ (b : List Bool). getD b i false) marked ∙ marks-tell (used .rows) i (omega (arith, few)) ∙ sym (ap (isIn i) (used .is)) ∙ ap (λ (z : Watch Part). isUsed form z i) same
           where
             used : Chained (chain unmadePart (w .rows) (length (w .rows)) (w .ends .head))
             used = used-chain w (pass .two)
@@ -172,8 +185,6 @@ module _ (xs : List Row) (ys ws : List ℕ) (e : Ends) (key : Key) (l : Look) (e
             marked : marks ≡ markAll (used .rows) (replicate 4096 false)
             marked = em (used .rows) (ap₂ {C = Option (List ℕ)} (λ m h. chain unmadePart (map rowIs xs) m h) all ed ∙ used .is)
 
-            tells : (i : ℕ) → i < n → getD marks i false ≡ isUsed form w i
-            tells i q = ap (λ (b : List Bool). getD b i false) marked ∙ marks-tell (used .rows) i (omega (arith, few)) ∙ sym (ap (isIn i) (used .is))
-
-            accepted : acceptance form w next k list ≡ turnOn form w next k list
-            accepted = let p = pass .one in let s = pass .two in let u = may in rw (p, s, u)
+        pub turn-passes : (long : (i : ℕ) → length (getD xs i blank .key) ≡ 32) (d s : ℕ) (marks : List Bool) (out : Tick) → d ≡ e .head → ((used : List ℕ) → chain unmadePart (map rowIs xs) n d ≡ some used → marks ≡ markAll used (replicate 4096 false)) → s ≡ startOf n next → out ≡ passed marks xs n k s 0 list → out ≡ turnOn form (watchIs xs ys ws) next k list
+        turn-passes long d s marks out ed em es eo =
+            eo ∙ all-passed (watchIs xs ys ws) n xs refl long marks (tells d marks ed em) k s list (first-row s es) room ∙ turn-ahead s es

@@ -144,11 +144,11 @@ module _ (marks : List Bool) (xs : List Row) (n left at count : ℕ) (list : Lis
   unfolding passed
   pass-ends t h e = let none : 0 ≡ left = omega arith in ap (λ (f : ℕ). passed marks xs n f at count list) none ∙ e
 
-count-less : (used : Bool) (count : ℕ) → countAfter used count ≤ count + 1
+pub count-less : (used : Bool) (count : ℕ) → countAfter used count ≤ count + 1
 count-less true count = omega arith
 count-less false count = omega arith
 
-list-long : (used : Bool) (key : List ℕ) (count : ℕ) (list : List ℕ) → length (listAfter used key count list) ≡ length list
+pub list-long : (used : Bool) (key : List ℕ) (count : ℕ) (list : List ℕ) → length (listAfter used key count list) ≡ length list
 list-long true key count list = length-sets list (32 * count) key
 list-long false key count list = refl
 

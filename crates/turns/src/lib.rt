@@ -25,13 +25,13 @@ pub enum Turned {
 
 // ---- row numbers
 
-fn start(n: usize, next: u32) -> u32
+pub fn start(n: usize, next: u32) -> u32
     ensures { λ r. ⌜ r ≡ startOf n next ⌝ }
 {
     if (next as usize) < n { next } else { 0 }
 }
 
-fn following_row(n: usize, at: u32) -> u32
+pub fn following_row(n: usize, at: u32) -> u32
     requires { ⌜ at < 4096 ⌝ }
     ensures { λ r. ⌜ r ≡ following n at ⌝ }
 {
@@ -40,7 +40,7 @@ fn following_row(n: usize, at: u32) -> u32
 }
 
 // Question 8: k rows of n, and a list of so many bytes.
-fn may_turn(n: usize, k: u32, bytes: usize) -> bool
+pub fn may_turn(n: usize, k: u32, bytes: usize) -> bool
     ensures { λ r. ⌜ ((list : List ℕ) → length list ≡ bytes → r ≡ question8 n k list) ⌝ }
 {
     let most = k as usize;
@@ -76,7 +76,7 @@ fn mark_used(rows: &[u64], n: usize, head: u32, marks: &mut [bool; 4096])
 }
 
 // A key in the list, from this byte on.
-fn put_key(list: &mut [u8], at: usize, key: [u8; 32])
+pub fn put_key(list: &mut [u8], at: usize, key: [u8; 32])
     requires { ⌜ at + 32 ≤ length (now list) ⌝ }
     ensures { λ _. ⌜ now (list .exit) ≡ sets (now (list .entry)) at key ⌝ }
 {
@@ -119,7 +119,7 @@ fn pass(rows: &[u64], marks: &[bool; 4096], n: usize, first: u32, k: u32, list: 
 
 // ---- a tick
 
-fn ends_of(ends: &[u32; 3]) -> Ends
+pub fn ends_of(ends: &[u32; 3]) -> Ends
     ensures { λ r. ⌜ endsOf r ≡ endsIs (now (ends .entry)) ⌝ }
 {
     Ends {
@@ -129,7 +129,7 @@ fn ends_of(ends: &[u32; 3]) -> Ends
     }
 }
 
-fn no_key() -> Key
+pub fn no_key() -> Key
     ensures { λ r. ⌜ r .bytes ≡ replicate 32 0 ⌝ }
 {
     Key { bytes: [0u8; 32] }

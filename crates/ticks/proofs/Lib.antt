@@ -1,0 +1,5 @@
+pub mod Laws
+pub mod Marked
+pub mod Tours
+pub mod Lent
+pub mod Types
