@@ -38,7 +38,7 @@ unfolding withoutZeros
 fewer-digits [] = omega arith
 fewer-digits (c ∷ s) = one-of-two (eqb c 48 && ltb 0 (length s)) (withoutZeros s) (c ∷ s) (suc (length s)) (omega (arith, fewer-digits s)) (omega arith)
 
-decimal-length : (n : ℕ) → length (decimalText n) ≤ 20
+pub decimal-length : (n : ℕ) → length (decimalText n) ≤ 20
 unfolding decimalText
 decimal-length n = omega (arith, fewer-digits (digits 10 20 n), digits-length 10 20 n)
 
@@ -46,7 +46,7 @@ bits-length : (n : ℕ) → length (bitsText n) ≡ 16
 unfolding bitsText
 bits-length n = digits-length 16 16 n
 
-bytes-length : (key : List ℕ) (n : ℕ) → length (bytesText key n) ≡ 2 * n
+pub bytes-length : (key : List ℕ) (n : ℕ) → length (bytesText key n) ≡ 2 * n
 unfolding bytesText
 bytes-length key zero = refl
 bytes-length key (suc n) = omega (arith, length-append (bytesText key n) (digits 16 2 (getD key n 0)), bytes-length key n, digits-length 16 2 (getD key n 0))

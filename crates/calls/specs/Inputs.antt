@@ -11,13 +11,14 @@ use Rattle.lines.specs.declared.Step.{Step}
 use Rattle.lines.specs.declared.Line.{Line}
 use Rattle.lines.specs.declared.Line.the-variants.{At, TooLong, Nothing}
 use Rattle.grammar.specs.Lines.{lineOf}
+use Rattle.grammar.specs.declared.Said.{Said}
 use Rattle.grammar.specs.declared.Fault.the-variants as fault
 use Rattle.lending.specs.Lendings.{Within, Room, lentTo}
 use Rattle.session.specs.Watches.{Stays, Ran}
 use Rattle.lending.specs.declared.Size.{Size}
 use Rattle.session.specs.declared.Told.{Told}
 use Rattle.session.specs.declared.Reply.the-variants as reply
-use Rattle.answers.specs.Answers.{textOf, Wrote}
+use Rattle.answers.specs.Answers.{textOf}
 use Rattle.rounds.specs.Rounds.{lineText}
 use Rattle.calls.specs.declared.input.After.{After}
 use Rattle.calls.specs.declared.input.State.{State}
@@ -27,14 +28,14 @@ pub record Lent (z : Size) (xs ys : List ℕ) : Type 0 where
   pub within : Within z xs ys
   pub room : Room xs ys
 
--- a line of more than 1,024 bytes is not read
-abbrev pub CameBy : Line → List ℕ → Size → List ℕ → List ℕ → List ℕ → List ℕ → List ℕ → List ℕ → Told → Type 0
-CameBy (At start end) b z xs ys ws xs' ys' ws' r = Ran (lineOf b .line) (lineOf b .key) z xs ys ws xs' ys' ws' r
-CameBy TooLong b z xs ys ws xs' ys' ws' r = Stays (reply.Wrong fault.TooLong) z xs ys ws xs' ys' ws' r
-CameBy Nothing b z xs ys ws xs' ys' ws' r = Stays reply.Nothing z xs ys ws xs' ys' ws' r
+-- what a line comes to, whose bytes ask for q; one of more than 1,024 bytes is not read
+abbrev pub CameBy : Line → Said → Size → List ℕ → List ℕ → List ℕ → List ℕ → List ℕ → List ℕ → Told → Type 0
+CameBy (At start end) q z xs ys ws xs' ys' ws' r = Ran (q .line) (q .key) z xs ys ws xs' ys' ws' r
+CameBy TooLong q z xs ys ws xs' ys' ws' r = Stays (reply.Wrong fault.TooLong) z xs ys ws xs' ys' ws' r
+CameBy Nothing q z xs ys ws xs' ys' ws' r = Stays reply.Nothing z xs ys ws xs' ys' ws' r
 
-unfoldable pub Came : Line → List ℕ → Size → List ℕ → List ℕ → List ℕ → List ℕ → List ℕ → List ℕ → Told → Type 0
-Came l b z xs ys ws xs' ys' ws' r = CameBy l b z xs ys ws xs' ys' ws' r
+unfoldable pub Came : Line → Said → Size → List ℕ → List ℕ → List ℕ → List ℕ → List ℕ → List ℕ → Told → Type 0
+Came l q z xs ys ws xs' ys' ws' r = CameBy l q z xs ys ws xs' ys' ws' r
 
 -- lines are counted, too long ones also
 abbrev pub numberOf : Line → ℕ → ℕ
@@ -46,12 +47,13 @@ numberOf Nothing n = n
 unfoldable pub roomOf : ℕ → ℕ
 roomOf n = cond (ltb 61000 n) 0 n
 
--- a line's answer, whole in the buffer, and a tick's behind it: of any line one of the two is empty
+-- a line's answer, whole in the buffer, and a tick's, whole behind it: of any line one of the two is empty
 pub record Answered (line : Line) (b : List ℕ) (number : ℕ) (z : Size) (xs ys ws out xs' ys' ws' out' : List ℕ) (n : ℕ) (r : After) : Type 0 where
   pub told : Told
-  pub came : Came line b z xs ys ws xs' ys' ws' told
+  pub came : Came line (lineOf b) z xs ys ws xs' ys' ws' told
   pub size : r .size ≡ told .size
-  pub put : Wrote (putIn out (roomOf n) (textOf told number b)) (roomOf n + length (textOf told number b)) (lineText (lentTo (told .size) xs' ys' ws') (lineOf b .line)) out' (r .n)
+  pub end : r .n ≡ roomOf n + length (textOf told number b) + length (lineText (lentTo (told .size) xs' ys' ws') (lineOf b .line))
+  pub put : out' ≡ putIn (putIn out (roomOf n) (textOf told number b)) (roomOf n + length (textOf told number b)) (lineText (lentTo (told .size) xs' ys' ws') (lineOf b .line))
 
 -- a turn: the next line is taken or more is read, and what came is answered
 pub record Stepped (s : State) (buf xs ys ws out buf' xs' ys' ws' out' : List ℕ) (r : State) : Type 0 where

@@ -1,5 +1,6 @@
 // The list, line by line, and the answers, by a large buffer.
 use grammar::Fault;
+use grammar::Said;
 use lending::Size;
 use libc::STDOUT_FILENO;
 use lines::Input;
@@ -41,22 +42,20 @@ fn room(out: &[u8], n: usize) -> usize
     }
 }
 
-// What a line of these bytes comes to.
+// What a line comes to, whose bytes ask for this.
 fn tell(
     z: Size,
     rows: &mut [u64],
     cells: &mut [u32],
     ends: &mut [u32; 3],
     line: Line,
-    bytes: &[u8],
+    said: Said,
 ) -> Told
     requires { ⌜ Lent z (now rows) (now cells) ⌝ }
-    ensures { λ r. ⌜ Came line (now (bytes .entry)) z (now (rows .entry)) (now (cells .entry)) (now (ends .entry)) (now (rows .exit)) (now (cells .exit)) (now (ends .exit)) r × Lent (r .size) (now (rows .exit)) (now (cells .exit)) ⌝ }
+    ensures { λ r. ⌜ Came line said z (now (rows .entry)) (now (cells .entry)) (now (ends .entry)) (now (rows .exit)) (now (cells .exit)) (now (ends .exit)) r × Lent (r .size) (now (rows .exit)) (now (cells .exit)) ⌝ }
 {
     match line {
-        Line::At { start: _, end: _ } => {
-            session::answer(z, rows, cells, ends, grammar::read(bytes))
-        }
+        Line::At { start: _, end: _ } => session::answer(z, rows, cells, ends, said),
         Line::TooLong => session::plain(z, Reply::Wrong(Fault::TooLong)),
         Line::Nothing => session::plain(z, Reply::Nothing),
     }
@@ -88,11 +87,11 @@ fn answer(
     requires { ⌜ Lent z (now rows) (now cells) × (65536 ≤ length (now out)) ⌝ }
     ensures { λ r. ⌜ Answered line (now (bytes .entry)) number z (now (rows .entry)) (now (cells .entry)) (now (ends .entry)) (now (out .entry)) (now (rows .exit)) (now (cells .exit)) (now (ends .exit)) (now (out .exit)) n r × Lent (r .size) (now (rows .exit)) (now (cells .exit)) ⌝ }
 {
-    let told = tell(z, rows, cells, ends, line, bytes);
+    let said = grammar::read(bytes);
+    let told = tell(z, rows, cells, ends, line, said);
     let size = told.size;
     let at = room(out, n);
     let m = answers::put_told(out, at, told, number, bytes);
-    let said = grammar::read(bytes);
     let asked = said.line;
     let end = rounds::put_line(size, rows, cells, ends, asked, out, m);
     After { size, n: end }

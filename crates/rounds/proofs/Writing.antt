@@ -108,7 +108,7 @@ pub turned-put : (out out1 list : List ℕ) (n r : ℕ) (t u : Turned) → t ≡
 turned-put out out1 list n r t u e w = rw e w
 
 -- THE LINE
-served-few : (room : ℕ) → served room ≤ 64
+pub served-few : (room : ℕ) → served room ≤ 64
 served-few room = byBool (ltb room 64) (λ p. rw p (omega (arith, ltb-true room 64 p))) (λ p. rw p (omega arith))
 
 zeros : (m n : ℕ) → m ≤ n → take {A = ℕ} m (replicate n 0) ≡ replicate m 0

@@ -8,9 +8,6 @@ use Rattle.calls.proofs.input.tell.Tie as tie
 enum-told : tie.Need-enum-told
 enum-told c = search needs
 
-read-requires : tie.Need-read-requires
-read-requires c κs = search needs
-
 answer-requires : tie.Need-answer-requires
 answer-requires c κs = search needs
 
@@ -46,7 +43,6 @@ tell-spec =
     tie.close
     (tie.spec
     enum-told
-    read-requires
     answer-requires
     enum-told-2
     plain-requires
