@@ -1,11 +1,12 @@
-//! Our seven calls over rows lent as numbers, through the safe crate over the C functions.
+//! Our seven calls and the turn keeper over rows lent as numbers, through the safe crate over the C
+//! functions.
 
 use oracle::{Claim, Run, State};
 use siting::{Evidence, Judgment, NONE, Position, ROW_WORDS, Refusal, Site, words_of};
 
 use crate::kept::Kept;
 use crate::text::Table;
-use crate::watch::{Answer, Call, Link, Row, Watch};
+use crate::watch::{Answer, Call, Link, Row, Tick, Ticked, Watch};
 
 /// A watch as the crate holds it.
 pub struct Lent(pub Kept);
@@ -122,6 +123,25 @@ impl Lent {
         }
     }
 
+    /// Makes a tick with a list that is lent and, where that has room, with one of the watch's
+    /// own; an error where the two differ, a byte of the watch has changed, or one of the list
+    /// behind the keys given.
+    fn ticked(&mut self, tick: &Tick) -> Result<Ticked, String> {
+        const REST: [u8; 32] = [0xA5; 32];
+        let Tick { next, k, room } = *tick;
+        let mut list = tick.list(REST);
+        let turned = self.0.lent().turn(next, k, &mut list);
+        let rest = list.split_off(turned.map_or(0, |turned| turned.count));
+        let asked = turned.map(|turned| (list, turned.next));
+        if room >= k && self.0.now().turn(next, k) != asked {
+            return Err(format!("{}: otherwise with a list of its own", tick.line()));
+        }
+        if rest.iter().any(|key| *key != REST) || !self.0.unchanged() {
+            return Err(format!("{}: a change", tick.line()));
+        }
+        Ok(asked.map_err(Refusal::number))
+    }
+
     fn ask(&mut self, call: &Call) -> Result<Answer, Refusal> {
         let mut lent = self.0.lent();
         Ok(match call {
@@ -191,6 +211,11 @@ impl Table for Lent {
     /// A refusal changes no byte.
     fn call(&mut self, call: &Call) -> Answer {
         self.called(call).unwrap_or_else(|wrong| panic!("{wrong}"))
+    }
+
+    /// A tick changes no byte.
+    fn tick(&mut self, tick: &Tick) -> Ticked {
+        self.ticked(tick).unwrap_or_else(|wrong| panic!("{wrong}"))
     }
 
     fn digest(&self) -> u64 {

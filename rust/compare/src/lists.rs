@@ -87,7 +87,7 @@ pub fn unasked(rows: usize) -> Result<Option<String>, String> {
     let answer = program::ask(&format!("{EVERY_LINE}watch {rows}\nfresh\n"))?;
     match answer
         .lines()
-        .find(|line| *line != "ok" && !line.starts_with("digest "))
+        .find(|line| *line != "ok" && *line != "ok 0 0" && !line.starts_with("digest "))
     {
         None => Ok(None),
         Some(unknown) if unknown.starts_with("error ") => {
@@ -98,7 +98,7 @@ pub fn unasked(rows: usize) -> Result<Option<String>, String> {
 }
 
 /// A line of each kind that says something of a watch.
-const EVERY_LINE: &str = "watch 1\nfresh\ndigest\nlend 1 3344\nrow 0 1 - 0 - - - - - -\ncell 0 65280\nends - - 0\nfresh\n";
+const EVERY_LINE: &str = "watch 1\nfresh\nturn 0 1 1\ndigest\nlend 1 3344\nrow 0 1 - 0 - - - - - -\ncell 0 65280\nends - - 0\nfresh\n";
 
 /// Makes one list; its text and the answers wanted.
 pub fn made(seed: u64, name: &str, maker: Maker, log: &mut Log) -> (String, Wants) {

@@ -10,7 +10,7 @@ use crate::excuses::Kind;
 use crate::log::Log;
 use crate::report::hex;
 use crate::sphere::{excused, in_range};
-use crate::watch::{Answer, Call, Watch, too_soon};
+use crate::watch::{Answer, Call, Tick, Watch, too_soon};
 use crate::{model, same, text, ticks};
 
 /// The answers wanted, each with its line.
@@ -40,6 +40,8 @@ pub struct Script<'a> {
     /// The answers wanted, each with its line.
     wants: Wants,
     calls: u64,
+    /// The row number that the last accepted tick answered.
+    pub next: u32,
     guard: Option<Guard>,
     pub log: &'a mut Log,
 }
@@ -124,6 +126,7 @@ impl<'a> Script<'a> {
             lines: 1,
             wants: Vec::new(),
             calls: 0,
+            next: 0,
             guard: None,
             log,
         }
@@ -364,6 +367,18 @@ impl<'a> Script<'a> {
         *self.log.answers.entry(counted).or_default() += 1;
         self.calls += 1;
         Some(want)
+    }
+
+    /// Makes a tick on the whole numbers, and keeps it for the program; the original has none. For
+    /// lists that are not stored, which have the original's answers.
+    pub fn tick(&mut self, tick: Tick) {
+        let want = self.watch.tick(&tick);
+        self.line(&tick.line());
+        self.wants.push((self.lines, text::ticked_line(&want)));
+        let counted = ("turn", text::ticked_kind(&want));
+        *self.log.answers.entry(counted).or_default() += 1;
+        self.calls += 1;
+        self.next = want.map_or(self.next, |(_, next)| next);
     }
 
     /// Judges every row once, oldest first, as the original's `judged` asks for it, each with its

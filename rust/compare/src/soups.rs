@@ -9,7 +9,7 @@ use crate::rng::Rng;
 use crate::script::Script;
 use crate::sphere::{in_range, on_plane, on_sphere, turned};
 use crate::text::UNREADABLE;
-use crate::watch::{Answer, Call, Row, Watch};
+use crate::watch::{Answer, Call, Row, Tick, Watch};
 
 /// A way of making a list.
 pub type Maker = for<'a> fn(&mut Rng, &'a mut Log) -> Script<'a>;
@@ -269,7 +269,8 @@ impl Soup {
         }
     }
 
-    /// Any call; the clock goes on a little, often by half an hour, now and then by hours.
+    /// Any call, now and then a tick after it; the clock goes on a little, often by half an hour,
+    /// now and then by hours.
     fn any(&mut self, rng: &mut Rng, script: &mut Script) {
         self.clock = match rng.below(64) {
             0 => self.clock.saturating_add(rng.next() % EPOCH_MS),
@@ -293,7 +294,41 @@ impl Soup {
             _ => Call::Drop,
         };
         script.call(call);
+        tick(rng, script, 25);
     }
+}
+
+/// A tick once in so many times: as a rule handed the number that the last one answered, for rows
+/// that are there and a list with room for their keys. Whether one was made.
+fn tick(rng: &mut Rng, script: &mut Script, times: usize) -> bool {
+    // Stored lists draw nothing for it, so that they stay what they are.
+    if script.log.stored || !rng.one_in(times) {
+        return false;
+    }
+    let all = script.watch.rows.len() as u32;
+    let any = rng.next() as u32;
+    let next = match rng.below(8) {
+        0..5 => script.next,
+        5 => rng.pick(&[0, all.saturating_sub(1)]),
+        6 => rng.pick(&[all, all + 1, 64, 4_096]),
+        _ => rng.pick(&[u32::MAX, any]),
+    };
+    let k = match rng.below(10) {
+        0 => 0,
+        1 => rng.pick(&[all + 1, u32::MAX, any]),
+        2 | 3 => all,
+        4 | 5 => 1,
+        _ => 1 + rng.below(all.clamp(1, 9) as usize) as u32,
+    };
+    let room = match rng.below(10) {
+        0 => k.saturating_sub(1),
+        1 => rng.below(k.clamp(1, 70) as usize) as u32,
+        2 => rng.pick(&[64, u32::MAX]),
+        3 => k.saturating_add(rng.below(9) as u32),
+        _ => k,
+    };
+    script.tick(Tick { next, k, room });
+    true
 }
 
 /// Looks at the whole state once in so many calls, now and then after a line that is no call.
@@ -373,6 +408,7 @@ fn days<'a>(rng: &mut Rng, log: &'a mut Log) -> Script<'a> {
             }
         }
         soup.clock += HALF_HOUR;
+        tick(rng, &mut script, 2);
         let few = rng.one_in(12);
         script.round(
             soup.clock,
@@ -443,6 +479,7 @@ fn flood<'a>(rng: &mut Rng, log: &'a mut Log) -> Script<'a> {
             if rng.one_in(9) {
                 script.call(Call::TakeOut(key));
             }
+            tick(rng, &mut script, 20);
         }
         if rng.one_in(40) {
             script.call(Call::TakeOut(receiver));
@@ -479,6 +516,7 @@ fn clocks<'a>(rng: &mut Rng, log: &'a mut Log) -> Script<'a> {
                 _ => Call::Check(key),
             };
             script.call(call);
+            tick(rng, &mut script, 30);
             look(rng, &mut script, 40);
         }
         // A clock near 2^64 leaves every judging too soon until the row is made anew.
@@ -579,6 +617,7 @@ fn runs<'a>(rng: &mut Rng, log: &'a mut Log) -> Script<'a> {
             let call = soup.position(rng, &script, key, soup.clock);
             script.call(call);
         }
+        tick(rng, &mut script, 6);
         look(rng, &mut script, 6);
     }
     script
@@ -624,6 +663,7 @@ fn moves<'a>(rng: &mut Rng, log: &'a mut Log) -> Script<'a> {
             script.call(Call::Check(key));
         }
         soup.clock += rng.next() % HALF_HOUR;
+        tick(rng, &mut script, 6);
         look(rng, &mut script, 8);
     }
     script
@@ -824,7 +864,8 @@ fn spoil(rng: &mut Rng, watch: &mut Watch) {
     }
 }
 
-/// Each call on watches that are spoiled, and the digest after it: a refusal changes nothing.
+/// Each call on watches that are spoiled, ticks too, and the digest after it: a refusal changes
+/// nothing.
 fn junk<'a>(rng: &mut Rng, log: &'a mut Log) -> Script<'a> {
     let mut script = Script::new(1, log);
     while script.calls() < script.log.length / 2 {
@@ -833,6 +874,7 @@ fn junk<'a>(rng: &mut Rng, log: &'a mut Log) -> Script<'a> {
         if script.log.empty && rng.one_in(30) {
             script.lend(Watch::lent(0, rng.pick(&[0, 1, CELLS])));
             script.call(rng.pick(&[Call::Fresh, Call::Drop, Call::Check([7; 32])]));
+            tick(rng, &mut script, 2);
             script.look();
         }
         let mut watch = any_watch(rng, rows);
@@ -857,7 +899,7 @@ fn junk<'a>(rng: &mut Rng, log: &'a mut Log) -> Script<'a> {
                 _ => Call::Drop,
             };
             let refused = matches!(script.call(call), Some(Answer::No(_)));
-            if refused || rng.one_in(3) {
+            if tick(rng, &mut script, 6) || refused || rng.one_in(3) {
                 script.look();
             }
         }

@@ -259,4 +259,24 @@ mod tests {
             );
         }
     }
+
+    /// So do the ticks of `samples/turns.txt`; of a line that cannot be read its number is held.
+    #[test]
+    fn stored_ticks_come_back() {
+        let folder = concat!(env!("CARGO_MANIFEST_DIR"), "/../../samples");
+        let read = |ending: &str| std::fs::read_to_string(format!("{folder}/turns.{ending}"));
+        let (list, out) = (read("txt").expect("stored"), read("out").expect("stored"));
+        let wanted = |line: &str| match line.split_once(": ") {
+            Some((error, _)) => format!("{error}: "),
+            None => line.to_string(),
+        };
+        let wants: Wants = out
+            .lines()
+            .zip(1..)
+            .map(|(line, at)| (at, wanted(line)))
+            .collect();
+        assert_eq!(lists::settle(&wants, &text::replay(&list)), Ok(()));
+        let ours = text::replay_by::<Lent>(&list);
+        assert_eq!(lists::settle(&wants, &ours), Ok(()));
+    }
 }

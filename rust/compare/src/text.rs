@@ -6,7 +6,7 @@ use std::fmt::Write;
 use oracle::{Claim, Key, Run, State};
 use siting::list::{self, Fields, float, long, maybe, short};
 
-use crate::watch::{Answer, Call, Link, Row, Watch};
+use crate::watch::{Answer, Call, Link, Row, Tick, Ticked, Watch};
 
 /// A float: a decimal with a point where at most 15 digits say it exactly, else its bits.
 pub fn real(x: f64) -> String {
@@ -140,6 +140,33 @@ impl Answer {
     }
 }
 
+impl Tick {
+    /// The tick's line.
+    pub fn line(&self) -> String {
+        format!("turn {} {} {}", self.next, self.k, self.room)
+    }
+}
+
+/// What kind of answer a tick has: keys are given, none of the rows is used, or it is refused.
+pub fn ticked_kind(ticked: &Ticked) -> &'static str {
+    match ticked {
+        Ok((keys, _)) if keys.is_empty() => "none",
+        Ok(_) => "ok",
+        Err(number) => NO[usize::from(*number) % NO.len()],
+    }
+}
+
+/// The line of a tick's answer.
+pub fn ticked_line(ticked: &Ticked) -> String {
+    match ticked {
+        Ok((keys, next)) => {
+            let given: String = keys.iter().map(|key| format!(" {}", long(key))).collect();
+            format!("ok {} {next}{given}", keys.len())
+        }
+        Err(number) => format!("no {number}"),
+    }
+}
+
 /// Whether a line is the answer that is wanted: a key's zeros in front may be left out, and of an
 /// error only the line's number is wanted.
 pub fn answers(want: &str, got: &str) -> bool {
@@ -229,6 +256,7 @@ fn run(text: &str) -> Option<Option<Run>> {
 enum Line {
     Nothing,
     Call(Call),
+    Tick(Tick),
     Digest,
     Watch(usize),
     Lend(usize, usize),
@@ -242,6 +270,13 @@ fn fields(f: &mut Fields) -> Result<Line, String> {
     let call = match f.text("the call")? {
         "" => return Ok(Line::Nothing),
         "digest" => return Ok(Line::Digest),
+        "turn" => {
+            return Ok(Line::Tick(Tick {
+                next: f.number("NEXT")?,
+                k: f.number("K")?,
+                room: f.number("ROOM")?,
+            }));
+        }
         "watch" => return Ok(Line::Watch(f.number("C")?)),
         "lend" => return Ok(Line::Lend(f.number("C")?, f.number("N")?)),
         "row" => {
@@ -309,6 +344,7 @@ pub trait Table {
     /// Rows in no chain, and any number of empty cells.
     fn lent(rows: usize, cells: usize) -> Self;
     fn call(&mut self, call: &Call) -> Answer;
+    fn tick(&mut self, tick: &Tick) -> Ticked;
     fn digest(&self) -> u64;
     /// Sets a row or a cell; false where it is not there.
     fn row(&mut self, at: usize, row: Row) -> bool;
@@ -327,6 +363,10 @@ impl Table for Watch {
 
     fn call(&mut self, call: &Call) -> Answer {
         self.answer(call, None)
+    }
+
+    fn tick(&mut self, tick: &Tick) -> Ticked {
+        Watch::tick(self, tick)
     }
 
     fn digest(&self) -> u64 {
@@ -360,6 +400,7 @@ fn answer<T: Table>(watch: &mut T, line: &str) -> Result<Option<String>, String>
     match line {
         Line::Nothing => {}
         Line::Call(call) => return Ok(Some(watch.call(&call).line())),
+        Line::Tick(tick) => return Ok(Some(ticked_line(&watch.tick(&tick)))),
         Line::Digest => return Ok(Some(format!("digest {:016x}", watch.digest()))),
         Line::Watch(rows) | Line::Lend(rows, _) if rows > 4_096 => {
             return Err("C is above 4096".to_string());
@@ -395,7 +436,7 @@ pub fn replay_by<T: Table>(list: &str) -> String {
 
 /// Lines that cannot be read: a field missing, one too many, one that is no key or no number, a
 /// number past its type, a row that is not there.
-pub const UNREADABLE: [&str; 28] = [
+pub const UNREADABLE: [&str; 33] = [
     "banana 1 2",
     "claim",
     "claim 12",
@@ -419,6 +460,11 @@ pub const UNREADABLE: [&str; 28] = [
     "takeout",
     "drop 1",
     "fresh 1",
+    "turn",
+    "turn 0 1",
+    "turn 0 x 1",
+    "turn 4294967296 1 1",
+    "turn 0 1 1 1",
     "digest 1",
     "watch",
     "watch 4097",

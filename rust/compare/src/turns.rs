@@ -1,7 +1,8 @@
 //! The turn keeper against a plain model: slots with keys in their order of use, and row numbers
 //! by a remainder. Between the ticks receivers are claimed, heard and taken out; after each tick
 //! the answer, the whole list and the watch's memory are compared, and at the end of a round it is
-//! seen that every receiver that stayed in its row was given.
+//! seen that every receiver that stayed in its row was given. Ticks in lists of calls are held to
+//! the same plain tick.
 
 use std::collections::{HashSet, VecDeque};
 
@@ -74,27 +75,28 @@ impl Model {
         self.since[row] = tick;
         self.order.push_back(row);
     }
+}
 
-    /// A tick: the count and the next row number, or 8; the list's start is written.
-    fn turn(&self, next: u32, k: u32, list: &mut [u8]) -> Result<(u64, u64), u64> {
-        let all = self.rows.len();
-        let many = k as usize;
-        if many < 1 || many > all || list.len() / 32 < many {
-            return Err(8);
-        }
-        let first = if (next as usize) < all {
-            next as usize
-        } else {
-            0
-        };
-        let given = (first..first + many).filter_map(|row| self.rows[row % all]);
-        let mut count = 0;
-        for (key, place) in given.zip(list.chunks_exact_mut(32)) {
-            place.copy_from_slice(&key);
-            count += 1;
-        }
-        Ok((count, ((first + many) % all) as u64))
+/// A tick over who stands in each row: the count and the next row number, or 8; the list's start
+/// is written.
+pub fn plain(rows: &[Option<Key>], next: u32, k: u32, list: &mut [u8]) -> Result<(u64, u64), u64> {
+    let all = rows.len();
+    let many = k as usize;
+    if many < 1 || many > all || list.len() / 32 < many {
+        return Err(8);
     }
+    let first = if (next as usize) < all {
+        next as usize
+    } else {
+        0
+    };
+    let given = (first..first + many).filter_map(|row| rows[row % all]);
+    let mut count = 0;
+    for (key, place) in given.zip(list.chunks_exact_mut(32)) {
+        place.copy_from_slice(&key);
+        count += 1;
+    }
+    Ok((count, ((first + many) % all) as u64))
 }
 
 /// The proved tick, over any part of the watch's memory and any bytes as the list.
@@ -189,12 +191,12 @@ impl Seen {
             _ => 32 * k as usize + rng.below(100),
         };
         let before: Vec<u8> = (0..bytes).map(|_| rng.next() as u8).collect();
-        let (mut ours, mut plain) = (before.clone(), before);
+        let (mut ours, mut listed) = (before.clone(), before);
         let cells = kept.now().cells.len();
         let answer = tick(kept.now(), cells, next, k, &mut ours);
-        let said = model.turn(next, k, &mut plain);
+        let said = plain(&model.rows, next, k, &mut listed);
         self.ticks += 1;
-        if answer != said || ours != plain {
+        if answer != said || ours != listed {
             let text = format!(
                 "turns: tick {}: turn {next} {k} {bytes}: {answer:?}, the model {said:?}",
                 self.ticks

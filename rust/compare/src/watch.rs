@@ -6,7 +6,7 @@ use oracle::{CELLS, Claim, Degrees, HALF, Held, Key, Number, Run, State};
 
 use crate::model::{self, EMPTY, EPOCH_MS};
 use crate::sphere::in_range;
-use crate::ticks;
+use crate::{ticks, turns};
 
 /// A row's number, or none.
 pub type Link = Option<u32>;
@@ -84,6 +84,25 @@ pub enum Answer {
     Freed(Key),
     /// The number of the question that was answered "no".
     No(u8),
+}
+
+/// A tick of the turn keeper, with a list of so many keys.
+#[derive(Clone, Copy, Debug, PartialEq, Eq)]
+pub struct Tick {
+    pub next: u32,
+    pub k: u32,
+    pub room: u32,
+}
+
+/// What a tick answers: the keys that it gives and the next row number, or the number of the
+/// question that was answered "no".
+pub type Ticked = Result<(Vec<Key>, u32), u8>;
+
+impl Tick {
+    /// The list's keys, all the same; past what any watch has rows, more are as many.
+    pub fn list(&self, key: Key) -> Vec<Key> {
+        vec![key; self.room.min(4_097) as usize]
+    }
 }
 
 /// Whether a judging is earlier than half an hour after the last one, a clock gone back included.
@@ -369,6 +388,24 @@ impl Watch {
         };
         self.relink(&order);
         Ok(answer)
+    }
+
+    /// Answers a tick, which only reads: questions 1 and 2, then the plain model's tick over who
+    /// stands in each row.
+    pub fn tick(&self, tick: &Tick) -> Ticked {
+        if !self.sized() {
+            return Err(1);
+        }
+        let mut rows = vec![None; self.rows.len()];
+        for row in self.order().ok_or(2)?.used {
+            rows[row] = Some(self.rows[row].key);
+        }
+        let mut list = tick.list([0; 32]);
+        let bytes = list.as_flattened_mut();
+        let turned = turns::plain(&rows, tick.next, tick.k, bytes);
+        let (count, next) = turned.map_err(|number| number as u8)?;
+        list.truncate(count as usize);
+        Ok((list, next as u32))
     }
 
     /// The digest of the whole watch.
