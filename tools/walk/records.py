@@ -6,13 +6,15 @@ use borrow.Author.Tests.{leb-true, leb-false, not-true, not-false}
 use Rattle.table.specs.Rows.{NONE}
 use Rattle.receiver.specs.declared.Part.{Part}
 use Rattle.rows.specs.declared.Row.{Row}
-use Rattle.rows.specs.declared.Ends.{Ends}
-use Rattle.rows.specs.declared.Key.{Key}
-use Rattle.rows.specs.declared.Look.{Look}
-use Rattle.rows.specs.declared.Look.the-variants as L
+use Rattle.scans.specs.declared.Ends.{Ends}
+use Rattle.scans.specs.declared.Key.{Key}
+use Rattle.scans.specs.declared.Look.{Look}
+use Rattle.scans.specs.declared.Look.the-variants as L
 use Rattle.rows.specs.Read.{Looked}
-use Rattle.rows.specs.Links.{blank, unmade, withNext, withPrev, withLinks, withPart, nexted, preved, outEnds, unlinkedRows, unlinkedEnds, linkedRows, linkedEnds, withFree, releasedRows, releasedEnds, touchedRows, touchedEnds, markedRows, markedEnds, roomRows, roomEnds, takenRows, takenEnds, enteredRows, enteredEnds, madeRow, keptSeat, madeSeat}
-use Rattle.rows.specs.Search.{sizesOf, startOf, scanned, lookOf, isNo, atOf}
+use Rattle.rows.specs.Links.{blank, unmade, withNext, withPrev, withLinks, withPart, nexted, preved, unlinkedRows, unlinkedEnds, linkedRows, releasedRows, releasedEnds, touchedRows, touchedEnds, markedRows, markedEnds, roomRows, roomEnds, takenRows, takenEnds, enteredRows, enteredEnds, madeRow, keptSeat, madeSeat}
+use Rattle.scans.specs.Ends.{outEnds, linkedEnds, withFree}
+use Rattle.rows.specs.Search.{sizesOf, scanned}
+use Rattle.scans.specs.Scan.{startOf, lookOf, isNo, atOf}
 use Rattle.rows.proofs.Tables.{get-out, put-out, room-no, room-yes, seat-made, seat-kept}
 use Rattle.rows.proofs.Looks.{looks, looks-not}
 use Rattle.records.proofs.Types.{R, index, link, row, cursor, ends, key, part, seat, looked}

@@ -1,11 +1,11 @@
-# What tools/walk.py is told of crate `ticks` (see its head). What the functions of crates `rows` and `records` ensure is said in records.py and watch.py.
+# What tools/walk.py is told of crate `ticks` (see its head). What the functions of crates `scans`, `rows` and `records` ensure is said in records.py and watch.py.
 import os, runpy
 
 WATCH = runpy.run_path(os.path.join(os.path.dirname(os.path.abspath(__file__)), 'watch.py'))
 USES = '''
 use mathlib.Core.Bool.{true, false, not}
 use Rattle.rows.specs.declared.Row.{Row}
-use Rattle.rows.specs.declared.Ends.{Ends}
+use Rattle.scans.specs.declared.Ends.{Ends}
 use lib.ListN.{replicate}
 use Rattle.rows.specs.Read.{Looked}
 use Rattle.turns.specs.Turn.{startOf, question8}

@@ -1,4 +1,4 @@
-# What tools/walk.py is told of crate `watch` (see its head). What the functions of crates `rows` and `records` ensure is said in records.py.
+# What tools/walk.py is told of crate `watch` (see its head). What the functions of crates `scans`, `rows` and `records` ensure is said in records.py.
 import os, runpy
 
 ROWS = runpy.run_path(os.path.join(os.path.dirname(os.path.abspath(__file__)), 'records.py'))
@@ -9,12 +9,14 @@ use borrow.Author.Tests.{leb-true, leb-false, not-true, not-false}
 use Rattle.table.specs.Rows.{NONE}
 use Rattle.receiver.specs.declared.Part.{Part}
 use Rattle.rows.specs.declared.Row.{Row}
-use Rattle.rows.specs.declared.Ends.{Ends}
-use Rattle.rows.specs.declared.Key.{Key}
-use Rattle.rows.specs.declared.Look.{Look}
+use Rattle.scans.specs.declared.Ends.{Ends}
+use Rattle.scans.specs.declared.Key.{Key}
+use Rattle.scans.specs.declared.Look.{Look}
 use Rattle.rows.specs.Read.{Looked, endsIs, endsOf}
-use Rattle.rows.specs.Links.{blank, unmade, withNext, withPrev, withLinks, withPart, nexted, preved, outEnds, unlinkedRows, unlinkedEnds, linkedRows, linkedEnds, withFree, releasedRows, releasedEnds, touchedRows, touchedEnds, markedRows, markedEnds, roomRows, roomEnds, takenRows, takenEnds, enteredRows, enteredEnds, madeRow, keptSeat, madeSeat, seatOf, seatedRows, freshFrom, freshEnds}
-use Rattle.rows.specs.Search.{sizesOf, startOf, scanned, lookOf, isNo, atOf, isUnfit, numberOf}
+use Rattle.rows.specs.Links.{blank, unmade, withNext, withPrev, withLinks, withPart, nexted, preved, unlinkedRows, unlinkedEnds, linkedRows, releasedRows, releasedEnds, touchedRows, touchedEnds, markedRows, markedEnds, roomRows, roomEnds, takenRows, takenEnds, enteredRows, enteredEnds, madeRow, keptSeat, madeSeat, seatOf, seatedRows, freshFrom}
+use Rattle.scans.specs.Ends.{outEnds, linkedEnds, withFree, freshEnds}
+use Rattle.rows.specs.Search.{sizesOf, scanned}
+use Rattle.scans.specs.Scan.{startOf, lookOf, isNo, atOf, isUnfit, numberOf}
 use Rattle.records.proofs.Types.{R, index, link, row, ends, key, part, seat, looked}
 use Rattle.watch.proofs.Types.{answer-datum, move-datum, count-datum, claimed-datum, claiming-datum, hearing-datum, position-datum, judgment-datum, heard-datum}
 use lib.ListN.{take, drop, replicate}
@@ -23,16 +25,17 @@ use Prim.Native.Nat.{_*_, _+_}
 use Rattle.cells.specs.Cells.{emptyWord}
 use Rattle.sites.specs.declared.Claimed.{Claimed}
 use Rattle.near_field.specs.declared.Judgment.{Judgment}
-use Rattle.receiver.specs.declared.Position.{Position}
-use Rattle.receiver.specs.Heard.{width, emptyCells, siteFits, claimed, positioned}
-use Rattle.receiver.specs.Answers.{claimingIs, hearingIs, HearingFits}
-use Rattle.moves.specs.Answers.{noKey, saying, freeing, checkAnswer, isRefused, claimPart, isUnheard, hearNo, hearPart}
-use Rattle.moves.specs.Moves.{emptiedAt, staying, seatMove, ClaimedRow, by-look, countedAt, HeardRow, dueLook, judgedAt, judgedRow, judgedAs, judgedRows, checkedAs, removeMove, removedRows, oldestLook}
+use Rattle.heard.specs.declared.Position.{Position}
+use Rattle.heard.specs.Heard.{width, emptyCells, siteFits, claimed, positioned}
+use Rattle.heard.specs.Answers.{claimingIs, hearingIs, HearingFits}
+use Rattle.bodies.specs.Bodies.{emptiedAt, isRefused, claimPart, isUnheard, hearPart, dueLook, judgedAt, judgedRow}
+use Rattle.moves.specs.Answers.{noKey, saying, freeing, checkAnswer, hearNo}
+use Rattle.moves.specs.Moves.{staying, seatMove, ClaimedRow, by-look, countedAt, HeardRow, judgedAs, judgedRows, checkedAs, removeMove, removedRows, oldestLook}
 use Rattle.moves.proofs.Looked.{held-site, fit-site}
 use Rattle.moves.proofs.Entries.{claim-left, claim-kept, hear-none, hear-left, hear-kept, judge-none, judge-kept, check-none, check-kept, remove-none, remove-kept, check-so, due-room, judging-so, take-room, take-so, drop-room, drop-so, claim-room, claim-so, position-room, position-so}
 use Rattle.moves.proofs.Making.{fresh-no, fresh-yes}
-use Rattle.rows.specs.declared.Look.the-variants as L
-use Rattle.receiver.specs.declared.Hearing.the-variants as Hearings
+use Rattle.scans.specs.declared.Look.the-variants as L
+use Rattle.heard.specs.declared.Hearing.the-variants as Hearings
 use Rattle.moves.specs.declared.Word.the-variants as Wd
 '''
 TYPES = {'Row': 'row', 'Ends': 'ends', 'Key': 'key', 'Part': 'part', 'Seat': 'seat', 'Look': 'looked', 'Answer': 'answer-datum', 'Claimed': 'claimed-datum', 'Claiming': 'claiming-datum', 'Hearing': 'hearing-datum',

@@ -14,19 +14,19 @@ use Rattle.near_field.specs.declared.Judgment.{Judgment}
 use Rattle.near_field.specs.declared.Judgment.the-variants as judgment
 use Rattle.near_field.specs.declared.Evidence.{Evidence}
 use Rattle.near_field.specs.declared.Evidence.the-variants as evidence
-use Rattle.receiver.specs.declared.CheckState.{CheckState}
-use Rattle.receiver.specs.declared.CheckState.the-variants as state
+use Rattle.verdicts.specs.declared.CheckState.{CheckState}
+use Rattle.verdicts.specs.declared.CheckState.the-variants as state
 use Rattle.moves.specs.declared.Word.{Word}
 use Rattle.moves.specs.declared.Word.the-variants as word
-use Rattle.grammar.specs.declared.Name.{Name}
-use Rattle.grammar.specs.declared.Name.the-variants as name
-use Rattle.grammar.specs.declared.Fault.{Fault}
-use Rattle.grammar.specs.declared.Fault.the-variants as fault
-use Rattle.session.specs.declared.Reply.{Reply}
-use Rattle.session.specs.declared.Reply.the-variants as reply
-use Rattle.session.specs.declared.Told.{Told}
 use Rattle.answers.specs.Words.{spell, _then_, nameText}
 use Rattle.answers.specs.Answers.{shownText, strayText, faultText, bytesText, keyText, evidenceText, judgmentText, stateText, claimText, callText, wrongText, bitOf, replyText, textOf}
+use Rattle.answers.specs.declared.Reply.{Reply}
+use Rattle.readers.specs.declared.Name.{Name}
+use Rattle.readers.specs.declared.Name.the-variants as name
+use Rattle.readers.specs.declared.Fault.{Fault}
+use Rattle.readers.specs.declared.Fault.the-variants as fault
+use Rattle.answers.specs.declared.Reply.the-variants as reply
+use Rattle.answers.specs.declared.Told.{Told}
 
 -- ---- the parts
 one-of-two : (b : Bool) (s t : List ℕ) (n : ℕ) → length s ≤ n → length t ≤ n → length (cond b s t) ≤ n

@@ -12,13 +12,8 @@ use Rattle.print.specs.Print.{decimalText, bitsText}
 use Rattle.near_field.specs.declared.Judgment.{Judgment}
 use Rattle.near_field.specs.declared.Judgment.the-variants as judgment
 use Rattle.near_field.specs.declared.Evidence.{Evidence}
-use Rattle.receiver.specs.declared.CheckState.{CheckState}
+use Rattle.verdicts.specs.declared.CheckState.{CheckState}
 use Rattle.moves.specs.declared.Word.{Word}
-use Rattle.grammar.specs.declared.Name.{Name}
-use Rattle.grammar.specs.declared.Fault.{Fault}
-use Rattle.grammar.specs.declared.Fault.the-variants as fault
-use Rattle.session.specs.declared.Reply.{Reply}
-use Rattle.session.specs.declared.Reply.the-variants as reply
 use Rattle.answers.specs.declared.fault.Blame.{Blame}
 use Rattle.answers.specs.declared.phrase.Form.the-variants as form
 use Rattle.answers.specs.declared.phrase.Rest.the-variants as rest
@@ -26,6 +21,11 @@ use Rattle.answers.specs.declared.phrase.Phrase.{Phrase}
 use Rattle.answers.specs.Words.{spell, _then_, nameText, wordAt}
 use Rattle.answers.specs.Answers.{shownText, strayText, faultText, evidenceText, judgmentText, stateText, claimText, callText, bitOf, replyText}
 use Rattle.answers.specs.Phrases.{phraseText, blameText, fixedOf, countedOf, hexedOf}
+use Rattle.answers.specs.declared.Reply.{Reply}
+use Rattle.readers.specs.declared.Name.{Name}
+use Rattle.readers.specs.declared.Fault.{Fault}
+use Rattle.readers.specs.declared.Fault.the-variants as fault
+use Rattle.answers.specs.declared.Reply.the-variants as reply
 
 -- ---- what is wrong
 

@@ -6,7 +6,7 @@ use native.Mathlib.Omega.{arith}
 use borrow.Author.Tests.{le-leb, lt-leb}
 use lib.ListN.{length}
 use Rattle.print.specs.Print.{putIn}
-use Rattle.session.specs.declared.Told.{Told}
+use Rattle.answers.specs.declared.Told.{Told}
 use Rattle.answers.specs.declared.phrase.Phrase.{Phrase}
 use Rattle.answers.specs.Answers.{replyText, textOf, answeredIn, answeredEnd, Wrote}
 use Rattle.answers.specs.Phrases.{phraseText, Phrases}

@@ -12,7 +12,7 @@ use Rattle.fields.specs.Text.{firstOf, partOf, shownOf}
 use Rattle.print.specs.Print.{digits, bitsText, putIn, putEnd}
 use Rattle.answers.specs.declared.phrase.Form.{Form}
 use Rattle.answers.specs.declared.phrase.Rest.{Rest}
-use Rattle.grammar.specs.declared.Fault.{Fault}
+use Rattle.readers.specs.declared.Fault.{Fault}
 use Rattle.answers.specs.declared.fault.Blame.{Blame}
 use Rattle.answers.specs.declared.phrase.Phrase.{Phrase}
 use Rattle.answers.specs.Words.{_then_, words, wordAt}

@@ -4,8 +4,8 @@ use Prim.Native.Char.{code}
 use Prim.Native.String.{String, [] as none, _∷_ as _before_}
 use mathlib.Core.List.{List, [], _∷_, _++_}
 use Rattle.fields.specs.Text.{firstOf, partOf}
-use Rattle.grammar.specs.declared.Name.{Name}
-use Rattle.grammar.specs.declared.Name.the-variants as name
+use Rattle.readers.specs.declared.Name.{Name}
+use Rattle.readers.specs.declared.Name.the-variants as name
 
 -- a text's bytes
 abbrev pub spell : String → List ℕ

@@ -1,7 +1,7 @@
 // What is wrong with a line: a word, a field's name, what is shown of the line's first bytes, a word; each may be none.
 use crate::words;
-use grammar::Fault;
-use grammar::Name;
+use readers::Fault;
+use readers::Name;
 ghost use mathlib.Core.Path.{_≡_};
 ghost use Rattle.answers.specs.Answers.{faultText, strayText};
 ghost use Rattle.answers.specs.Words.{_then_, nameText, wordAt};

@@ -1,11 +1,11 @@
 // An answer taken apart: a word, a number, a word, a key or a fault, a word; each may be none.
+use crate::Reply;
 use crate::words;
-use grammar::Fault;
 use moves::Word;
 use near_field::Evidence;
 use near_field::Judgment;
-use receiver::CheckState;
-use session::Reply;
+use readers::Fault;
+use verdicts::CheckState;
 ghost use mathlib.Core.Path.{_≡_};
 ghost use mathlib.Core.List.{[]};
 ghost use Rattle.answers.specs.Answers.{evidenceText, judgmentText, stateText, claimText, callText, wrongText, bitOf, replyText};

@@ -4,7 +4,7 @@ use crate::phrase::Form;
 use crate::phrase::Phrase;
 use crate::phrase::Rest;
 use crate::words::put_word;
-use grammar::Fault;
+use readers::Fault;
 ghost use Rattle.fields.specs.Text.{partOf};
 ghost use Rattle.print.specs.Print.{digits};
 ghost use Rattle.answers.specs.Words.{_then_, wordAt};

@@ -1,5 +1,5 @@
 // The words of the answers, in one text: a word is known by the place where it starts, and ends before the next bar.
-use grammar::Name;
+use readers::Name;
 ghost use mathlib.Core.Path.{_≡_};
 ghost use Rattle.answers.specs.Words.{nameText, wordAt};
 ghost use Rattle.answers.specs.Answers.{Wrote};

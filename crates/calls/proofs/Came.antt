@@ -13,14 +13,14 @@ use Rattle.lines.specs.declared.Line.{Line}
 use Rattle.lines.specs.declared.Line.the-variants.{At, TooLong, Nothing}
 use Rattle.grammar.specs.Lines.{lineOf}
 use Rattle.grammar.specs.declared.Said.{Said}
-use Rattle.grammar.specs.declared.Fault.the-variants as fault
+use Rattle.readers.specs.declared.Fault.the-variants as fault
 use Rattle.print.specs.Print.{putIn}
 use Rattle.lending.specs.Lendings.{Room, lentTo}
 use Rattle.session.specs.Watches.{Ran, Opened, plainly}
 use Rattle.lending.specs.declared.Size.{Size}
-use Rattle.session.specs.declared.Told.{Told}
-use Rattle.session.specs.declared.Reply.{Reply}
-use Rattle.session.specs.declared.Reply.the-variants as reply
+use Rattle.answers.specs.declared.Told.{Told}
+use Rattle.answers.specs.declared.Reply.{Reply}
+use Rattle.answers.specs.declared.Reply.the-variants as reply
 use Rattle.answers.specs.Answers.{textOf, answeredIn, answeredEnd, Wrote}
 use Rattle.answers.proofs.Lengths.{text-length}
 use Rattle.answers.proofs.Writing.{put-length}

@@ -12,12 +12,12 @@ use Rattle.lines.specs.declared.Line.{Line}
 use Rattle.lines.specs.declared.Line.the-variants.{At, TooLong, Nothing}
 use Rattle.grammar.specs.Lines.{lineOf}
 use Rattle.grammar.specs.declared.Said.{Said}
-use Rattle.grammar.specs.declared.Fault.the-variants as fault
+use Rattle.readers.specs.declared.Fault.the-variants as fault
 use Rattle.lending.specs.Lendings.{Within, Room, lentTo}
 use Rattle.session.specs.Watches.{Stays, Ran}
 use Rattle.lending.specs.declared.Size.{Size}
-use Rattle.session.specs.declared.Told.{Told}
-use Rattle.session.specs.declared.Reply.the-variants as reply
+use Rattle.answers.specs.declared.Told.{Told}
+use Rattle.answers.specs.declared.Reply.the-variants as reply
 use Rattle.answers.specs.Answers.{textOf}
 use Rattle.rounds.specs.Rounds.{lineText}
 use Rattle.calls.specs.declared.input.After.{After}

@@ -1,12 +1,12 @@
 // The list, line by line, and the answers, by a large buffer.
-use grammar::Fault;
+use answers::Reply;
+use answers::Told;
 use grammar::Said;
 use lending::Size;
 use libc::STDOUT_FILENO;
 use lines::Input;
 use lines::Line;
-use session::Reply;
-use session::Told;
+use readers::Fault;
 ghost use mathlib.Core.Path.{_≡_};
 ghost use Prim.Native.Nat.{_≤_};
 ghost use lib.ListN.{length};

@@ -10,24 +10,26 @@ use borrow.Author.Tests.{not-true, not-false}
 use Rattle.table.specs.Machine.{same}
 use Rattle.table.specs.Rows.{NONE, zeroKey}
 use Rattle.receiver.specs.declared.Part.{Part}
-use Rattle.rows.specs.declared.Key.{Key}
+use Rattle.scans.specs.declared.Key.{Key}
 use Rattle.rows.specs.declared.Row.{Row}
-use Rattle.rows.specs.declared.Ends.{Ends}
-use Rattle.rows.specs.declared.Cursor.{Cursor}
+use Rattle.scans.specs.declared.Ends.{Ends}
+use Rattle.scans.specs.declared.Cursor.{Cursor}
 use Rattle.rows.specs.declared.Seat.{Seat}
-use Rattle.rows.specs.declared.Look.{Look}
-use Rattle.rows.specs.Links.{blank, unmade, withLinks, madeRow, withFree, nexted, preved, outEnds, unlinkedRows, unlinkedEnds, linkedRows, linkedEnds, releasedRows, releasedEnds, touchedRows, touchedEnds, markedRows, markedEnds, partedRows, takenRows, takenEnds, roomRows, roomEnds, enteredRows, enteredEnds, keptSeat, madeSeat, seatOf, seatedRows}
-use Rattle.rows.specs.declared.Look.the-variants as L
+use Rattle.scans.specs.declared.Look.{Look}
+use Rattle.rows.specs.Links.{blank, unmade, withLinks, madeRow, nexted, preved, unlinkedRows, unlinkedEnds, linkedRows, releasedRows, releasedEnds, touchedRows, touchedEnds, markedRows, markedEnds, partedRows, takenRows, takenEnds, roomRows, roomEnds, enteredRows, enteredEnds, keptSeat, madeSeat, seatOf, seatedRows}
+use Rattle.scans.specs.Ends.{withFree, outEnds, linkedEnds}
+use Rattle.scans.specs.declared.Look.the-variants as L
 use Rattle.rows.specs.Read.{fits, Looked}
-use Rattle.rows.specs.Search.{sizesOf, backFits, firstFound, moreOf, stepOf, scanned, startOf, lookOf, isNo, atOf}
+use Rattle.rows.specs.Search.{sizesOf, stepOf, scanned}
+use Rattle.scans.specs.Scan.{backFits, firstFound, moreOf, startOf, lookOf, isNo, atOf}
 use Rattle.rows.proofs.Laws.{steps}
 use Rattle.rows.proofs.Looks.{looks, looks-not}
 use Rattle.rows.proofs.Scans.{goes-on, stops}
 use Rattle.rows.proofs.Tables.{room-no, room-yes, seat-made, seat-kept}
-use Rattle.flat.specs.Words.{keyOf}
 use Rattle.glances.specs.declared.Links.{Links}
 use Rattle.glances.specs.declared.Glance.{Glance}
 use Rattle.glances.specs.Glances.{linksOf, glanceOf}
+use Rattle.packing.specs.Words.{keyOf}
 
 -- STEPS ON THE CHAINS
 module _ (xs : List Row) (i : ℕ) (l : Links) (seen : l ≡ linksOf (getD xs i blank)) where

@@ -4,19 +4,21 @@ ghost use mathlib.Core.Path.{_≡_};
 ghost use Prim.Native.Nat.{_≤_};
 ghost use lib.ListN.{length, getD};
 ghost use Rattle.rows.specs.Read.{Looked};
-ghost use Rattle.rows.specs.Links.{blank, unlinkedRows, unlinkedEnds, linkedRows, linkedEnds, releasedRows, releasedEnds, touchedRows, touchedEnds, markedRows, markedEnds, roomRows, roomEnds, takenRows, takenEnds, enteredRows, enteredEnds, seatOf, seatedRows, freshFrom};
-ghost use Rattle.rows.specs.Search.{stepOf, scanned, atOf};
-ghost use Rattle.flat.specs.Words.{keyOf};
+ghost use Rattle.rows.specs.Links.{blank, unlinkedRows, unlinkedEnds, linkedRows, releasedRows, releasedEnds, touchedRows, touchedEnds, markedRows, markedEnds, roomRows, roomEnds, takenRows, takenEnds, enteredRows, enteredEnds, seatOf, seatedRows, freshFrom};
+ghost use Rattle.scans.specs.Ends.{linkedEnds};
+ghost use Rattle.rows.specs.Search.{stepOf, scanned};
+ghost use Rattle.scans.specs.Scan.{atOf};
 ghost use Rattle.flat.specs.Table.{rowsOf};
 ghost use Rattle.glances.specs.Glances.{glanceOf};
+ghost use Rattle.packing.specs.Words.{keyOf};
 use glances::Glance;
 use receiver::Part;
-use rows::Cursor;
-use rows::Ends;
-use rows::Key;
-use rows::Look;
 use rows::Row;
 use rows::Seat;
+use scans::Cursor;
+use scans::Ends;
+use scans::Key;
+use scans::Look;
 
 // ---- steps on the chains
 
@@ -27,17 +29,17 @@ fn unlink(rows: &mut [u64], e: Ends, i: u32) -> Ends
     let l = glances::links_at(rows, i);
     glances::set_next(rows, l.prev, l.next);
     glances::set_prev(rows, l.next, l.prev);
-    rows::out_ends(e, l.prev, l.next)
+    scans::out_ends(e, l.prev, l.next)
 }
 
 // Puts row i last in the used chain: the most recently used.
 fn link_last(rows: &mut [u64], e: Ends, i: u32) -> Ends
     ensures { λ r. ⌜ (r ≡ linkedEnds e i) × (rowsOf (now (rows .exit)) ≡ linkedRows (rowsOf (now (rows .entry))) e i) ⌝ }
 {
-    let t = rows::tail_of(e);
-    glances::set_links(rows, i, t, rows::no_row());
+    let t = scans::tail_of(e);
+    glances::set_links(rows, i, t, scans::no_row());
     glances::set_next(rows, t, i);
-    rows::linked_ends(e, i)
+    scans::linked_ends(e, i)
 }
 
 // Takes row i out of the used chain and frees it: it becomes as fresh, and heads the free chain.
@@ -45,8 +47,8 @@ pub fn release(rows: &mut [u64], e: Ends, i: u32) -> Ends
     ensures { λ r. ⌜ (r ≡ releasedEnds (rowsOf (now (rows .entry))) e i) × (rowsOf (now (rows .exit)) ≡ releasedRows (rowsOf (now (rows .entry))) e i) ⌝ }
 {
     let d = unlink(rows, e, i);
-    flat::put(rows, i, rows::unmade_row(rows::free_of(e)));
-    rows::with_free(d, i)
+    flat::put(rows, i, rows::unmade_row(scans::free_of(e)));
+    scans::with_free(d, i)
 }
 
 // Marks row i: it is freed after every row marked longer ago.
@@ -69,22 +71,22 @@ pub fn mark(rows: &mut [u64], e: Ends, i: u32, part: Part) -> Ends
 fn make_room(rows: &mut [u64], e: Ends) -> Ends
     ensures { λ r. ⌜ (r ≡ roomEnds (rowsOf (now (rows .entry))) e) × (rowsOf (now (rows .exit)) ≡ roomRows (rowsOf (now (rows .entry))) e) ⌝ }
 {
-    let spare = rows::has_free(e);
+    let spare = scans::has_free(e);
     if spare {
-        return rows::same_ends(e);
+        return scans::same_ends(e);
     }
-    release(rows, e, rows::head_of(e))
+    release(rows, e, scans::head_of(e))
 }
 
 // The first free row is taken for the key, and is the most recently used.
 fn take_free(rows: &mut [u64], e: Ends, key: Key, part: Part) -> Ends
     ensures { λ r. ⌜ (r ≡ takenEnds (rowsOf (now (rows .entry))) e) × (rowsOf (now (rows .exit)) ≡ takenRows (rowsOf (now (rows .entry))) e key part) ⌝ }
 {
-    let i = rows::free_of(e);
+    let i = scans::free_of(e);
     let old = flat::get(rows, i);
     flat::put(rows, i, rows::made_row(old, key, part));
     let n = rows::next_of(old);
-    link_last(rows, rows::with_free(e, n), i)
+    link_last(rows, scans::with_free(e, n), i)
 }
 
 // A row is made for the key, where no row is free in place of the least recently used.
@@ -99,13 +101,13 @@ fn enter(rows: &mut [u64], e: Ends, key: Key, part: Part) -> Ends
 pub fn insert_active(rows: &mut [u64], e: Ends, l: Look, key: Key, part: Part) -> Seat
     ensures { λ r. ⌜ (r ≡ seatOf (rowsOf (now (rows .entry))) e l part) × (rowsOf (now (rows .exit)) ≡ seatedRows (rowsOf (now (rows .entry))) e l key part) ⌝ }
 {
-    let new = rows::is_no(l);
+    let new = scans::is_no(l);
     if new {
-        let old = flat::get(rows, rows::head_of(e));
+        let old = flat::get(rows, scans::head_of(e));
         let d = enter(rows, e, key, part);
         return rows::made_seat(e, old, d);
     }
-    let i = rows::at_of(l);
+    let i = scans::at_of(l);
     let f = mark(rows, e, i, part);
     rows::kept_seat(f, i)
 }
@@ -127,10 +129,10 @@ fn step_by(s: Cursor, g: Glance) -> Cursor
         return s;
     }
     let k = s.key;
-    let broken = rows::both(s.back, g.prev != s.prev);
-    let fits = rows::negated(broken);
-    let sound = rows::both(s.sound, g.sound);
-    let found = rows::first_found(s.found, s.at, g.same);
+    let broken = scans::both(s.back, g.prev != s.prev);
+    let fits = scans::negated(broken);
+    let sound = scans::both(s.sound, g.sound);
+    let found = scans::first_found(s.found, s.at, g.same);
     Cursor {
         at: g.next,
         prev: s.at,
@@ -149,7 +151,7 @@ fn scan(rows: &[u64], n: usize, s: Cursor, key: &[u64; 4]) -> Cursor
     ensures { λ r. ⌜ r ≡ scanned (rowsOf (now (rows .entry))) s ⌝ }
 {
     let mut c = s;
-    while rows::more(c, n) {
+    while scans::more(c, n) {
         let g = glances::look_at(rows, place(c), key);
         c = step_by(c, g);
     }
@@ -162,22 +164,22 @@ pub fn look_up(rows: &[u64], m: usize, e: Ends, key: Key) -> Look
 {
     let n = flat::count(rows);
     let fit = rows::sizes_fit(n, m);
-    let bad = rows::negated(fit);
+    let bad = scans::negated(fit);
     if bad {
-        return rows::no_one();
+        return scans::no_one();
     }
     let bytes = key.bytes;
     let k = glances::words_of(bytes);
-    let used = scan(rows, n, rows::used_start(n, e, key), &k);
-    let free = scan(rows, n, rows::free_start(n, e, key), &k);
-    rows::look_of(n, e, used, free)
+    let used = scan(rows, n, scans::used_start(n, e, key), &k);
+    let free = scan(rows, n, scans::free_start(n, e, key), &k);
+    scans::look_of(n, e, used, free)
 }
 
 // The row that was found; the unmade one where none was.
 pub fn found(rows: &[u64], l: Look) -> Row
     ensures { λ r. ⌜ r ≡ getD (rowsOf (now (rows .entry))) (atOf l) blank ⌝ }
 {
-    flat::get(rows, rows::at_of(l))
+    flat::get(rows, scans::at_of(l))
 }
 
 // ---- fresh

@@ -10,9 +10,9 @@ use lib.ListN.{length, getD}
 use Rattle.table.specs.Machine.{same}
 use Rattle.table.proofs.Tests.{byBool}
 use Rattle.table.proofs.Keys.{same-refl, same-eq}
-use Rattle.flat.specs.Words.{most64, wordOf, bytesOf, eight, keyWords, keyOf}
-use Rattle.flat.specs.Ranges.{Bytes}
-use Rattle.flat.proofs.Keys.{word-back, bytes-long, key-in, key-back}
+use Rattle.packing.specs.Words.{most64, wordOf, bytesOf, eight, keyWords, keyOf}
+use Rattle.packing.specs.Ranges.{Bytes}
+use Rattle.packing.proofs.Keys.{word-back, bytes-long, key-in, key-back}
 
 same-bytes : (x y : ℕ) → x ≤ most64 → y ≤ most64 → same (bytesOf 8 x) (bytesOf 8 y) ≡ eqb x y
 same-bytes x y hx hy =

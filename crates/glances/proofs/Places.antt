@@ -15,25 +15,27 @@ use Rattle.table.proofs.Tests.{byBool, clash}
 use Rattle.measures.specs.Degrees.{inDegrees}
 use Rattle.sites.specs.declared.Claimed.{Claimed}
 use Rattle.sites.specs.declared.Claimed.the-variants.{Nowhere}
-use Rattle.receiver.specs.declared.WrongBy.the-variants as By
-use Rattle.receiver.specs.declared.Judged.{Judged}
-use Rattle.receiver.specs.declared.Judged.the-variants.{Never}
+use Rattle.verdicts.specs.declared.WrongBy.the-variants as By
+use Rattle.verdicts.specs.declared.Judged.{Judged}
+use Rattle.verdicts.specs.declared.Judged.the-variants.{Never}
 use Rattle.receiver.specs.declared.Part.{Part}
-use Rattle.receiver.specs.Heard.{siteFits}
-use Rattle.receiver.specs.Verdict.{stepOf5, byFits, verdictFits}
+use Rattle.heard.specs.Heard.{siteFits}
+use Rattle.verdicts.specs.Verdict.{stepOf5, byFits, verdictFits}
 use Rattle.rows.specs.declared.Row.{Row}
 use Rattle.rows.specs.Read.{fits}
 use Rattle.rows.specs.Links.{blank, withLinks, withPart}
-use Rattle.flat.specs.Words as row
-use Rattle.flat.specs.Words.{wordsOfRow, low32, bytesOf, keyOf, altitudeOf, siteOf, byOf, runOf, verdictOf, headFits, numbersFit, rowFits, rowOf, junk, openedOf}
+use Rattle.flat.specs.Words.{wordsOfRow, headFits, numbersFit, rowFits, rowOf, junk, openedOf}
 use Rattle.flat.specs.Table.{rowsOf}
-use Rattle.flat.proofs.Opening.{absent, site-some, by-some, verdict-some, third-tells, second-tells, first-tells, row-in-parts}
+use Rattle.flat.proofs.Opening.{third-tells, second-tells, first-tells, row-in-parts}
 use Rattle.flat.proofs.Returns.{junk-unfit}
-use Rattle.flat.proofs.Runs.{further}
 use Rattle.flat.proofs.Rows.{got, not-got, words-are, stored}
 use Rattle.glances.specs.declared.Links.{Links}
 use Rattle.glances.specs.declared.Glance.{Glance}
 use Rattle.glances.specs.Glances.{wordsAt, fitsAt, linksOf, glanceOf}
+use Rattle.packing.specs.Words as row
+use Rattle.packing.specs.Words.{low32, bytesOf, keyOf, altitudeOf, siteOf, byOf, runOf, verdictOf}
+use Rattle.packing.proofs.Opening.{absent, site-some, by-some, verdict-some}
+use Rattle.packing.proofs.Runs.{further}
 
 -- THE TEST
 module _ (ws : List ℕ) (i : ℕ) (t : Bool) (e : t ≡ leb (length (rowsOf ws)) i) where

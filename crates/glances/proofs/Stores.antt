@@ -12,11 +12,15 @@ use Rattle.table.proofs.Tests.{and-1, and-2, and-both}
 use Rattle.receiver.specs.declared.Part.{Part}
 use Rattle.rows.specs.declared.Row.{Row}
 use Rattle.rows.specs.Links.{withLinks, withPart}
-use Rattle.flat.specs.Words.{most32, most64, keyOf, wide2, maybeFits, altitudeOf, siteOf, siteFits, idOf, byOf, runOf, verdictOf, runFits, verdictFits, numbersFit, clockId, idWords, heardWords, verdictWords, rowFits, rowOf, junk, openedOf}
-use Rattle.flat.specs.Ranges.{HeardIn, VerdictIn, IdIn}
-use Rattle.flat.proofs.Runs.{runs2, over-rest}
-use Rattle.flat.proofs.Closing.{heard-words, verdict-words, id-words}
-use Rattle.flat.proofs.Returns.{low-is, opened-words}
+use Rattle.packing.specs.Words.{most32, most64, keyOf, wide2, maybeFits, altitudeOf, siteOf, siteFits, idOf, byOf, runOf, verdictOf, runFits, verdictFits, clockId, idWords, verdictWords}
+use Rattle.flat.specs.Words.{numbersFit, heardWords, rowFits, rowOf, junk, openedOf}
+use Rattle.packing.specs.Ranges.{VerdictIn, IdIn}
+use Rattle.flat.specs.Ranges.{HeardIn}
+use Rattle.packing.proofs.Runs.{runs2, over-rest}
+use Rattle.packing.proofs.Closing.{verdict-words, id-words}
+use Rattle.flat.proofs.Closing.{heard-words}
+use Rattle.packing.proofs.Returns.{low-is}
+use Rattle.flat.proofs.Returns.{opened-words}
 use Rattle.flat.proofs.Closed.{each, each-is}
 use Rattle.glances.proofs.Places.{opened-fit}
 

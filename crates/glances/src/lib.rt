@@ -6,16 +6,16 @@ ghost use Prim.Native.Nat.{_<_, _≤_};
 ghost use lib.Dec.{eqb};
 ghost use lib.ListN.{length, set, getD, drop};
 ghost use Rattle.table.specs.Machine.{same};
-ghost use Rattle.receiver.specs.Heard.{siteFits};
-ghost use Rattle.receiver.specs.Verdict.{verdictFits};
+ghost use Rattle.heard.specs.Heard.{siteFits};
+ghost use Rattle.verdicts.specs.Verdict.{verdictFits};
 ghost use Rattle.rows.specs.Read.{fits};
 ghost use Rattle.rows.specs.Links.{blank, withLinks, withPart, nexted, preved, partedRows};
-ghost use Rattle.flat.specs.Words.{most64, keyOf, siteOf, verdictOf, rowFits, rowOf, junk, openedOf};
+ghost use Rattle.flat.specs.Words.{rowFits, rowOf, junk, openedOf};
 ghost use Rattle.flat.specs.Table.{rowsOf};
 ghost use Rattle.glances.specs.Glances.{fitsAt, linksOf, glanceOf};
+ghost use Rattle.packing.specs.Words.{most64, keyOf, siteOf, verdictOf};
 use measures::degrees;
 use receiver::Part;
-use receiver::run;
 use rows::Row;
 
 // A row's links.
@@ -50,15 +50,15 @@ fn links_of(words: &[u64]) -> Links
     ensures { λ r. ⌜ r ≡ linksOf (rowOf (now (words .entry))) ⌝ }
 {
     Links {
-        prev: flat::low32(words[21]),
-        next: flat::low32(words[22]),
+        prev: packing::low32(words[21]),
+        next: packing::low32(words[22]),
     }
 }
 
 fn no_links() -> Links
     ensures { λ r. ⌜ r ≡ linksOf blank ⌝ }
 {
-    let none = rows::no_row();
+    let none = scans::no_row();
     Links {
         prev: none,
         next: none,
@@ -91,7 +91,7 @@ fn same_words(words: &[u64], key: &[u64; 4]) -> bool
     let b = same_word(words[1], key[1]);
     let c = same_word(words[2], key[2]);
     let d = same_word(words[3], key[3]);
-    rows::both(a, rows::both(b, rows::both(c, d)))
+    scans::both(a, scans::both(b, scans::both(c, d)))
 }
 
 // Of most rows the first word tells.
@@ -127,7 +127,7 @@ fn verdict_sound(words: &[u64]) -> bool
     if words[18] == 0 {
         return true;
     }
-    run::is_step(flat::low32(words[19]))
+    verdicts::is_step(packing::low32(words[19]))
 }
 
 fn sound_at(words: &[u64]) -> bool
@@ -145,10 +145,10 @@ fn sound_at(words: &[u64]) -> bool
 pub fn words_of(key: [u8; 32]) -> [u64; 4]
     ensures { λ r. ⌜ keyOf r ≡ key ⌝ }
 {
-    let a = flat::key_word(key, 0);
-    let b = flat::key_word(key, 8);
-    let c = flat::key_word(key, 16);
-    let d = flat::key_word(key, 24);
+    let a = packing::key_word(key, 0);
+    let b = packing::key_word(key, 8);
+    let c = packing::key_word(key, 16);
+    let d = packing::key_word(key, 24);
     [a, b, c, d]
 }
 
@@ -171,7 +171,7 @@ fn glance_of(words: &[u64], key: &[u64; 4]) -> Glance
 fn junk_glance(key: &[u64; 4]) -> Glance
     ensures { λ r. ⌜ r ≡ glanceOf (keyOf (now (key .entry))) junk ⌝ }
 {
-    let none = rows::no_row();
+    let none = scans::no_row();
     let zeros = [0u64; 4];
     let same = same_words(&zeros, key);
     Glance {
@@ -191,7 +191,7 @@ fn words_fit(words: &[u64]) -> bool
     if head {
         let numbers = flat::numbers_fit(words);
         if numbers {
-            return flat::verdict_fits(words, 14);
+            return packing::verdict_fits(words, 14);
         }
     }
     false
@@ -223,9 +223,9 @@ fn store_links(words: &mut [u64], p: u32, n: u32)
     requires { ⌜ (length (now words) ≡ 25) × (rowFits (now words) ≡ true) ⌝ }
     ensures { λ _. ⌜ (openedOf (now (words .exit)) ≡ withLinks (openedOf (now (words .entry))) p n) × (length (now (words .exit)) ≡ 25) ⌝ }
 {
-    let a = flat::wide32(p);
-    let b = flat::wide32(n);
-    flat::put2(words, 21, a, b);
+    let a = packing::wide32(p);
+    let b = packing::wide32(n);
+    packing::put2(words, 21, a, b);
 }
 
 fn store_part(words: &mut [u64], part: Part)
@@ -235,7 +235,7 @@ fn store_part(words: &mut [u64], part: Part)
     let heard = part.heard;
     let verdict = part.verdict;
     flat::put_heard(words, heard);
-    flat::put_verdict(words, 14, verdict);
+    packing::put_verdict(words, 14, verdict);
     let kept = part.judged_ms;
     flat::put_clock(words, kept);
 }

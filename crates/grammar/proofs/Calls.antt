@@ -9,27 +9,27 @@ use lib.ListN.{length, replicate}
 use Rattle.fields.specs.Text.{textEnd, fieldAt, partOf, sameBytes}
 use Rattle.fields.specs.declared.Field.{Field}
 use Rattle.fields.specs.declared.Field.the-variants.{At, Stray, End}
-use Rattle.grammar.specs.declared.Name.{Name}
-use Rattle.grammar.specs.declared.Name.the-variants as name
-use Rattle.grammar.specs.declared.Fault.the-variants as fault
+use Rattle.readers.specs.declared.Name.{Name}
+use Rattle.readers.specs.declared.Name.the-variants as name
+use Rattle.readers.specs.declared.Fault.the-variants as fault
 use Rattle.grammar.specs.declared.Line.{Line}
 use Rattle.grammar.specs.declared.Line.the-variants as line
 use Rattle.grammar.specs.declared.Call.the-variants as call
 use Rattle.grammar.specs.declared.Said.{Said}
 use Rattle.grammar.specs.declared.kinds.Kind.{Kind}
 use Rattle.grammar.specs.declared.kinds.Kind.the-variants as kind
-use Rattle.grammar.specs.declared.place.Place.{Place}
-use Rattle.grammar.specs.declared.place.Whole.{Whole}
-use Rattle.grammar.specs.declared.place.Small.{Small}
-use Rattle.grammar.specs.declared.place.PartHeld.{PartHeld}
-use Rattle.grammar.specs.declared.place.LinksHeld.{LinksHeld}
-use Rattle.grammar.specs.declared.place.ClockHeld.{ClockHeld}
-use Rattle.grammar.specs.declared.place.FeetHeld.{FeetHeld}
-use Rattle.grammar.specs.declared.place.Named.{Named}
-use Rattle.grammar.specs.declared.place.Two.{Two}
-use Rattle.grammar.specs.declared.place.Four.{Four}
-use Rattle.grammar.specs.declared.place.SiteHeld.{SiteHeld}
-use Rattle.grammar.specs.Fields.{startAt, wholeAt, smallAt, linkAt, feetAt, keyAt, endedAt, twoAt, fourAt, claimAt, partAt, linksAt, clockAt}
+use Rattle.readers.specs.declared.Place.{Place}
+use Rattle.readers.specs.declared.Whole.{Whole}
+use Rattle.readers.specs.declared.Small.{Small}
+use Rattle.readers.specs.declared.PartHeld.{PartHeld}
+use Rattle.readers.specs.declared.LinksHeld.{LinksHeld}
+use Rattle.readers.specs.declared.ClockHeld.{ClockHeld}
+use Rattle.readers.specs.declared.FeetHeld.{FeetHeld}
+use Rattle.readers.specs.declared.Named.{Named}
+use Rattle.readers.specs.declared.Two.{Two}
+use Rattle.readers.specs.declared.Four.{Four}
+use Rattle.readers.specs.declared.SiteHeld.{SiteHeld}
+use Rattle.readers.specs.Fields.{startAt, wholeAt, smallAt, linkAt, feetAt, keyAt, endedAt, twoAt, fourAt, claimAt, partAt, linksAt, clockAt}
 use Rattle.grammar.specs.Lines.{wordPlace, wordSame, wordHorizon, wordBucket, wordBit, wordFresh, wordDrop, wordCheck, wordTakeout, wordClaim, wordPosition, wordJudging, wordTurn, wordWatch, wordDigest, wordLend, wordRow, wordCell, wordEnds, pickOf, whichSingle, whichCall, whichLent, whichOf, saying, toldBy, bareLine, keyLine, watchLine, claimLine, positionLine, judgingLine, turnLine, placeLine, sameLine, horizonLine, bucketLine, bitLine, lendLine, rowPart, rowLine, cellLine, endsLine, lineBy, callOf, returnAtEnd, textBy, textOf, lineOf}
 
 -- ---- the words

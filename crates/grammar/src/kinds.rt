@@ -1,16 +1,15 @@
 // The calls by their words, and one reader for each.
 use crate::Call;
-use crate::Fault;
 use crate::Line;
-use crate::Name;
 use crate::Said;
-use crate::place;
-use crate::place::Place;
+use heard::Position;
+use readers::Fault;
+use readers::Name;
+use readers::Place;
 use receiver::Part;
-use receiver::Position;
 ghost use mathlib.Core.Path.{_≡_};
-ghost use Rattle.grammar.specs.Fields.{endedAt};
 ghost use Rattle.grammar.specs.Lines.{pickOf, whichSingle, whichCall, whichLent, whichOf, toldBy, saying, bareLine, keyLine, watchLine, claimLine, positionLine, judgingLine, turnLine, placeLine, sameLine, horizonLine, bucketLine, bitLine, lendLine, rowLine, cellLine, endsLine, lineBy};
+ghost use Rattle.readers.specs.Fields.{endedAt};
 
 pub enum Kind {
     Watch,
@@ -100,7 +99,7 @@ fn told(p: Place, line: Line) -> Line
 fn closed(t: &[u8], p: Place, last: Name, line: Line) -> Said
     ensures { λ r. ⌜ r ≡ saying (toldBy (endedAt (now (t .entry)) p last) line) ⌝ }
 {
-    let e = place::ended(t, p, last);
+    let e = readers::ended(t, p, last);
     crate::say(told(e, line))
 }
 
@@ -113,10 +112,10 @@ fn bare_line(t: &[u8], p: Place, line: Line) -> Said
 fn key_line(t: &[u8], p: Place, line: Line) -> Said
     ensures { λ r. ⌜ r ≡ keyLine (now (t .entry)) p line ⌝ }
 {
-    let k = place::key_at(t, p);
+    let k = readers::key_at(t, p);
     let q = k.place;
     let key = k.key;
-    let e = place::ended(t, q, Name::Key);
+    let e = readers::ended(t, q, Name::Key);
     Said {
         line: told(e, line),
         key,
@@ -126,7 +125,7 @@ fn key_line(t: &[u8], p: Place, line: Line) -> Said
 fn watch_line(t: &[u8], p: Place) -> Said
     ensures { λ r. ⌜ r ≡ watchLine (now (t .entry)) p ⌝ }
 {
-    let w = place::small_at(t, p, Name::Rows);
+    let w = readers::small_at(t, p, Name::Rows);
     let q = w.place;
     closed(t, q, Name::Rows, Line::Watch { rows: w.n })
 }
@@ -134,13 +133,13 @@ fn watch_line(t: &[u8], p: Place) -> Said
 fn claim_line(t: &[u8], p: Place) -> Said
     ensures { λ r. ⌜ r ≡ claimLine (now (t .entry)) p ⌝ }
 {
-    let k = place::key_at(t, p);
+    let k = readers::key_at(t, p);
     let q = k.place;
     let key = k.key;
-    let x = place::claim_at(t, q);
+    let x = readers::claim_at(t, q);
     let behind = x.place;
     let site = x.site;
-    let e = place::ended(t, behind, Name::Alt);
+    let e = readers::ended(t, behind, Name::Alt);
     Said {
         line: told(e, Line::Call(Call::Claim(site))),
         key,
@@ -150,18 +149,18 @@ fn claim_line(t: &[u8], p: Place) -> Said
 fn position_line(t: &[u8], p: Place) -> Said
     ensures { λ r. ⌜ r ≡ positionLine (now (t .entry)) p ⌝ }
 {
-    let k = place::key_at(t, p);
+    let k = readers::key_at(t, p);
     let pk = k.place;
     let key = k.key;
-    let x = place::two_at(t, pk, Name::Lat, Name::Lon);
+    let x = readers::two_at(t, pk, Name::Lat, Name::Lon);
     let px = x.place;
-    let m = place::feet_at(t, px);
+    let m = readers::feet_at(t, px);
     let pm = m.place;
-    let a = place::small_at(t, pm, Name::Address);
+    let a = readers::small_at(t, pm, Name::Address);
     let pa = a.place;
-    let w = place::whole_at(t, pa, u64::MAX, Name::AtMs);
+    let w = readers::whole_at(t, pa, u64::MAX, Name::AtMs);
     let pw = w.place;
-    let e = place::ended(t, pw, Name::AtMs);
+    let e = readers::ended(t, pw, Name::AtMs);
     let feet = m.feet;
     Said {
         line: told(
@@ -181,14 +180,14 @@ fn position_line(t: &[u8], p: Place) -> Said
 fn judging_line(t: &[u8], p: Place) -> Said
     ensures { λ r. ⌜ r ≡ judgingLine (now (t .entry)) p ⌝ }
 {
-    let k = place::key_at(t, p);
+    let k = readers::key_at(t, p);
     let pk = k.place;
     let key = k.key;
-    let a = place::whole_at(t, pk, u64::MAX, Name::NowMs);
+    let a = readers::whole_at(t, pk, u64::MAX, Name::NowMs);
     let pa = a.place;
-    let b = place::whole_at(t, pa, u64::MAX, Name::Aircraft);
+    let b = readers::whole_at(t, pa, u64::MAX, Name::Aircraft);
     let pb = b.place;
-    let e = place::ended(t, pb, Name::Aircraft);
+    let e = readers::ended(t, pb, Name::Aircraft);
     Said {
         line: told(
             e,
@@ -204,11 +203,11 @@ fn judging_line(t: &[u8], p: Place) -> Said
 fn turn_line(t: &[u8], p: Place) -> Said
     ensures { λ r. ⌜ r ≡ turnLine (now (t .entry)) p ⌝ }
 {
-    let a = place::small_at(t, p, Name::Next);
+    let a = readers::small_at(t, p, Name::Next);
     let pa = a.place;
-    let b = place::small_at(t, pa, Name::K);
+    let b = readers::small_at(t, pa, Name::K);
     let pb = b.place;
-    let d = place::small_at(t, pb, Name::Room);
+    let d = readers::small_at(t, pb, Name::Room);
     let pd = d.place;
     closed(
         t,
@@ -225,7 +224,7 @@ fn turn_line(t: &[u8], p: Place) -> Said
 fn place_line(t: &[u8], p: Place) -> Said
     ensures { λ r. ⌜ r ≡ placeLine (now (t .entry)) p ⌝ }
 {
-    let x = place::four_at(t, p);
+    let x = readers::four_at(t, p);
     let q = x.place;
     closed(
         t,
@@ -243,7 +242,7 @@ fn place_line(t: &[u8], p: Place) -> Said
 fn same_line(t: &[u8], p: Place) -> Said
     ensures { λ r. ⌜ r ≡ sameLine (now (t .entry)) p ⌝ }
 {
-    let x = place::four_at(t, p);
+    let x = readers::four_at(t, p);
     let q = x.place;
     closed(
         t,
@@ -261,7 +260,7 @@ fn same_line(t: &[u8], p: Place) -> Said
 fn horizon_line(t: &[u8], p: Place) -> Said
     ensures { λ r. ⌜ r ≡ horizonLine (now (t .entry)) p ⌝ }
 {
-    let x = place::two_at(t, p, Name::A, Name::B);
+    let x = readers::two_at(t, p, Name::A, Name::B);
     let q = x.place;
     closed(t, q, Name::B, Line::Horizon { a: x.a, b: x.b })
 }
@@ -269,7 +268,7 @@ fn horizon_line(t: &[u8], p: Place) -> Said
 fn bucket_line(t: &[u8], p: Place) -> Said
     ensures { λ r. ⌜ r ≡ bucketLine (now (t .entry)) p ⌝ }
 {
-    let m = place::feet_at(t, p);
+    let m = readers::feet_at(t, p);
     let q = m.place;
     let feet = m.feet;
     closed(t, q, Name::Feet, Line::Bucket(feet))
@@ -278,7 +277,7 @@ fn bucket_line(t: &[u8], p: Place) -> Said
 fn bit_line(t: &[u8], p: Place) -> Said
     ensures { λ r. ⌜ r ≡ bitLine (now (t .entry)) p ⌝ }
 {
-    let w = place::small_at(t, p, Name::Address);
+    let w = readers::small_at(t, p, Name::Address);
     let q = w.place;
     closed(t, q, Name::Address, Line::Bit { address: w.n })
 }
@@ -286,9 +285,9 @@ fn bit_line(t: &[u8], p: Place) -> Said
 fn lend_line(t: &[u8], p: Place) -> Said
     ensures { λ r. ⌜ r ≡ lendLine (now (t .entry)) p ⌝ }
 {
-    let a = place::small_at(t, p, Name::Rows);
+    let a = readers::small_at(t, p, Name::Rows);
     let pa = a.place;
-    let b = place::small_at(t, pa, Name::Cells);
+    let b = readers::small_at(t, pa, Name::Cells);
     let pb = b.place;
     closed(
         t,
@@ -304,21 +303,21 @@ fn lend_line(t: &[u8], p: Place) -> Said
 fn row_line(t: &[u8], p: Place) -> Said
     ensures { λ r. ⌜ r ≡ rowLine (now (t .entry)) p ⌝ }
 {
-    let i = place::small_at(t, p, Name::Number);
+    let i = readers::small_at(t, p, Name::Number);
     let pi = i.place;
-    let k = place::key_at(t, pi);
+    let k = readers::key_at(t, pi);
     let pk = k.place;
     let key = k.key;
-    let x = place::part_at(t, pk);
+    let x = readers::part_at(t, pk);
     let px = x.place;
     let heard = x.heard;
     let verdict = x.verdict;
-    let y = place::links_at(t, px);
+    let y = readers::links_at(t, px);
     let py = y.place;
-    let c = place::clock_at(t, py);
+    let c = readers::clock_at(t, py);
     let pc = c.place;
     let judged_ms = c.kept;
-    let e = place::ended(t, pc, Name::Now);
+    let e = readers::ended(t, pc, Name::Now);
     let part = Part {
         heard,
         verdict,
@@ -341,9 +340,9 @@ fn row_line(t: &[u8], p: Place) -> Said
 fn cell_line(t: &[u8], p: Place) -> Said
     ensures { λ r. ⌜ r ≡ cellLine (now (t .entry)) p ⌝ }
 {
-    let a = place::small_at(t, p, Name::Number);
+    let a = readers::small_at(t, p, Name::Number);
     let pa = a.place;
-    let b = place::small_at(t, pa, Name::Value);
+    let b = readers::small_at(t, pa, Name::Value);
     let pb = b.place;
     closed(t, pb, Name::Value, Line::Cell { at: a.n, word: b.n })
 }
@@ -351,11 +350,11 @@ fn cell_line(t: &[u8], p: Place) -> Said
 fn ends_line(t: &[u8], p: Place) -> Said
     ensures { λ r. ⌜ r ≡ endsLine (now (t .entry)) p ⌝ }
 {
-    let a = place::link_at(t, p, Name::First);
+    let a = readers::link_at(t, p, Name::First);
     let pa = a.place;
-    let b = place::link_at(t, pa, Name::Last);
+    let b = readers::link_at(t, pa, Name::Last);
     let pb = b.place;
-    let d = place::link_at(t, pb, Name::Free);
+    let d = readers::link_at(t, pb, Name::Free);
     let pd = d.place;
     closed(
         t,

@@ -1,73 +1,14 @@
-// One line of a list of calls, read into a value: its fields are read in turn, and the first thing that is wrong is what the line comes to.
+// One line of a list of calls, read into a value: its fields are read in turn by `readers`, and the first thing that is wrong is what the line comes to.
 mod kinds;
-mod place;
 
 use cells::Height;
 use fields::Field;
+use heard::Position;
+use readers::Fault;
 use receiver::Part;
-use receiver::Position;
 use sites::Claimed;
 ghost use mathlib.Core.Path.{_≡_};
 ghost use Rattle.grammar.specs.Lines.{saying, callOf, returnAtEnd, textOf, lineOf};
-
-// A field's name, for what is said of a line that cannot be read.
-pub enum Name {
-    A,
-    Address,
-    After,
-    Aircraft,
-    Alt,
-    AtMs,
-    B,
-    Before,
-    Word,
-    Cells,
-    Distance,
-    Even,
-    Feet,
-    First,
-    Free,
-    Generation,
-    K,
-    Key,
-    Last,
-    Lat,
-    Lat1,
-    Lat2,
-    Lon,
-    Lon1,
-    Lon2,
-    Moved,
-    Next,
-    NowMs,
-    Number,
-    Odd,
-    Others,
-    Room,
-    Rows,
-    Site,
-    Value,
-    Verdict,
-    Wrongs,
-    Now,
-}
-
-// Why a line cannot be read, or not be done.
-pub enum Fault {
-    Missing(Name),
-    NotNumber(Name),
-    NotKey,
-    Extra(Name),
-    Stray { sep: u8 },
-    StrayReturn,
-    TooLong,
-    // The word that is no call ends at `end`.
-    Unknown { end: usize },
-    TooManyRows,
-    TooManyCells,
-    NoSuchRow,
-    NoSuchCell,
-}
 
 // The seven calls, but for the key that most of them name.
 pub enum Call {
@@ -154,7 +95,7 @@ fn called(t: &[u8], end: usize, next: usize) -> Said
     ensures { λ r. ⌜ r ≡ callOf (now (t .entry)) end next ⌝ }
 {
     let kind = kinds::which(fields::part(t, 0, end));
-    let p = place::start(next, b' ');
+    let p = readers::start(next, b' ');
     kinds::line_of(kind, t, end, p)
 }
 

@@ -26,9 +26,9 @@ use Rattle.plane.specs.Plane.{square}
 use Rattle.around.specs.Marks.{inSector, sectorsIn, cellIn, binIn, outsideOf}
 use Rattle.near_field.specs.declared.Judgment.the-variants.{Unjudged, Wrong}
 use Rattle.near_field.specs.declared.Evidence.the-variants.{NothingNear}
-use Rattle.nothing_near.specs.Nothing.{cellPlace, binPlace, heard, placesHeard, places, nothingNear}
-use Rattle.nothing_near.proofs.Cases.{p10-off, p10-few, nearest-skipped as places-skipped}
-use Rattle.nothing_near.specs.declared.Empty.the-variants.{Off, Heard}
+use Rattle.nearest.specs.Nothing.{cellPlace, binPlace, heard, placesHeard, places, nothingNear}
+use Rattle.nearest.proofs.Cases.{p10-off, p10-few, nearest-skipped as places-skipped}
+use Rattle.nearest.specs.declared.Empty.the-variants.{Off, Heard}
 use Rattle.judge.specs.Judging.{ifOutside, judgeCells, judgeRow, judgeOf}
 use Rattle.judge.proofs.Few.{pass-one, pass-two, skip-place, skip-count, none-past, low-free}
 use Rattle.judge.proofs.Unheard.{none-heard}

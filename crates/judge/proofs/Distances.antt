@@ -26,11 +26,11 @@ use Rattle.near_field.specs.declared.Judgment.{Judgment}
 use Rattle.near_field.specs.declared.Judgment.the-variants.{Unjudged, Fits, Wrong}
 use Rattle.near_field.specs.declared.Evidence.{Evidence}
 use Rattle.near_field.specs.declared.Evidence.the-variants.{NearField}
-use Rattle.nothing_near.specs.Nothing.{places, nothingNear}
-use Rattle.nothing_near.specs.declared.Empty.{Empty}
-use Rattle.nothing_near.specs.declared.Empty.the-variants.{Off, Heard}
+use Rattle.nearest.specs.Nothing.{places, nothingNear}
+use Rattle.nearest.specs.declared.Empty.{Empty}
+use Rattle.nearest.specs.declared.Empty.the-variants.{Off, Heard}
 use Rattle.plane.proofs.Squares.{said-step}
-use Rattle.nothing_near.proofs.Said.{off-step}
+use Rattle.nearest.proofs.Said.{off-step}
 use Rattle.judge.specs.Judging.{ifOutside, horizonOff, afterHorizon, byHorizon, judgeCells, judgeRow, judgeOf, Step}
 
 -- the three parts say so of their distances

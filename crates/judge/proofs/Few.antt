@@ -15,7 +15,7 @@ use Rattle.view.specs.declared.Far.{Far}
 use Rattle.sites.specs.Sites.{antenna}
 use Rattle.sites.specs.declared.Site.{Site}
 use Rattle.past_horizon.specs.Horizon.{underCeiling, binPast, withExcess, excesses, enoughPast, horizonPast, pastHorizon}
-use Rattle.nothing_near.specs.Nothing.{Place}
+use Rattle.nearest.specs.Nothing.{Place}
 
 -- ---- passes in which all numbers but one, or two, change nothing
 pub pass-one :

@@ -15,9 +15,9 @@ use Rattle.view.proofs.Views.{grid-at, bins-at, neither}
 use Rattle.sites.specs.declared.Site.{Site}
 use Rattle.around.specs.Marks.{outsideOf}
 use Rattle.near_field.specs.declared.Judgment.the-variants.{Unjudged}
-use Rattle.nothing_near.specs.Nothing.{Place, cellPlace, binPlace, heard, placesHeard, places, positionsIn, nothingNearIn, nothingNear}
-use Rattle.nothing_near.specs.Weights.{total}
-use Rattle.nothing_near.specs.declared.Empty.the-variants.{Heard}
+use Rattle.nearest.specs.Nothing.{Place, cellPlace, binPlace, heard, placesHeard, places, positionsIn, nothingNearIn, nothingNear}
+use Rattle.nearest.specs.Weights.{total}
+use Rattle.nearest.specs.declared.Empty.the-variants.{Heard}
 use Rattle.judge.specs.Judging.{ifOutside, judgeCells, judgeRow}
 use Rattle.judge.proofs.Few.{skip-place, none-past, low-free}
 use Rattle.judge.proofs.Ways.{after-few, by-none}

@@ -22,9 +22,9 @@ use Rattle.near_field.proofs.Judged.{nf-unheard}
 use Rattle.near_field.specs.declared.Judgment.{Judgment}
 use Rattle.near_field.specs.declared.Judgment.the-variants.{Unjudged, Wrong}
 use Rattle.near_field.specs.declared.Evidence.the-variants.{Horizon, NothingNear}
-use Rattle.nothing_near.specs.Nothing.{places, nothingNear}
-use Rattle.nothing_near.specs.declared.Empty.{Empty}
-use Rattle.nothing_near.specs.declared.Empty.the-variants.{Off, Heard}
+use Rattle.nearest.specs.Nothing.{places, nothingNear}
+use Rattle.nearest.specs.declared.Empty.{Empty}
+use Rattle.nearest.specs.declared.Empty.the-variants.{Off, Heard}
 use Rattle.judge.specs.Judging.{ifOutside, horizonOff, afterHorizon, byHorizon, judgeCells, judgeRow, judgeOf}
 
 -- ---- past the horizon

@@ -20,9 +20,9 @@ use Rattle.near_field.specs.Near.{nearField}
 use Rattle.near_field.specs.declared.Judgment.{Judgment}
 use Rattle.near_field.specs.declared.Judgment.the-variants.{Unjudged, Wrong}
 use Rattle.near_field.specs.declared.Evidence.the-variants.{Horizon, NothingNear}
-use Rattle.nothing_near.specs.Nothing.{places, nothingNear}
-use Rattle.nothing_near.specs.declared.Empty.{Empty}
-use Rattle.nothing_near.specs.declared.Empty.the-variants.{Off, Heard}
+use Rattle.nearest.specs.Nothing.{places, nothingNear}
+use Rattle.nearest.specs.declared.Empty.{Empty}
+use Rattle.nearest.specs.declared.Empty.the-variants.{Off, Heard}
 
 -- the nothing-near distance if outside and there is one
 unfoldable pub ifOutside : Bool → Empty → Empty

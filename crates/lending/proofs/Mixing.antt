@@ -19,14 +19,15 @@ use Rattle.sites.specs.declared.Claimed.{Claimed}
 use Rattle.sites.specs.declared.Claimed.the-variants.{At, Nowhere}
 use Rattle.view.specs.declared.EpochId.{EpochId}
 use Rattle.view.specs.declared.EpochId.the-variants as Ids
-use Rattle.receiver.specs.declared.Heard.{Heard}
-use Rattle.receiver.specs.declared.Verdict.{Verdict}
-use Rattle.receiver.specs.declared.Judged.{Judged}
-use Rattle.receiver.specs.declared.Judged.the-variants.{With, Never}
+use Rattle.heard.specs.declared.Heard.{Heard}
+use Rattle.verdicts.specs.declared.Verdict.{Verdict}
+use Rattle.verdicts.specs.declared.Judged.{Judged}
+use Rattle.verdicts.specs.declared.Judged.the-variants.{With, Never}
 use Rattle.rows.specs.declared.Row.{Row}
 use Rattle.rows.specs.Read.{rowIs, endsIs}
-use Rattle.flat.specs.Words.{wordOf, eight, keyWords, altitudeWords, siteWords, idWords, clockId, heardWords, lastWord}
+use Rattle.flat.specs.Words.{heardWords}
 use Rattle.lending.specs.Digests.{times, mixed, mixedAll, linkWord, distanceOf, verdictSix, rowWords, endsWords}
+use Rattle.packing.specs.Words.{wordOf, eight, keyWords, altitudeWords, siteWords, idWords, clockId, lastWord}
 
 -- 1099511628211 is 2^40 + 435: the low 24 bits shifted, and both halves times 435; what that leaves out is a multiple of 2^64
 module _ (h : ℕ) where

@@ -13,12 +13,10 @@ use lib.Seq.{take-at, drop-at, drop-length, length-take-le, sets, sets-eq}
 use Rattle.table.specs.Machine as M
 use Rattle.cells.specs.Cells.{emptyWord}
 use Rattle.receiver.specs.declared.Part.{Part}
-use Rattle.rows.specs.declared.Key.{Key}
+use Rattle.scans.specs.declared.Key.{Key}
 use Rattle.rows.specs.declared.Row.{Row}
 use Rattle.rows.specs.Links.{blank}
 use Rattle.flat.specs.Table.{rowsOf}
-use Rattle.grammar.specs.declared.Fault.{Fault}
-use Rattle.grammar.specs.declared.Fault.the-variants as fault
 use Rattle.lending.specs.declared.Size.{Size}
 use Rattle.lending.specs.declared.Outcome.{Outcome}
 use Rattle.lending.specs.declared.Outcome.the-variants.{Done, Wrong}
@@ -26,6 +24,8 @@ use Rattle.lending.specs.declared.Change.{Change}
 use Rattle.lending.specs.declared.Change.the-variants as change
 use Rattle.lending.specs.declared.Changed.{Changed}
 use Rattle.lending.specs.Lendings.{Within, Room, rowsIn, RowsBecome, noEnds, lendable, lentSize, Lent, rowThere, RowSet, cellThere, CellSet, EndsSet, AppliedBy, Applied}
+use Rattle.readers.specs.declared.Fault.{Fault}
+use Rattle.readers.specs.declared.Fault.the-variants as fault
 
 -- THE FIRST ROWS: what they become stands in front of what lies behind them
 module _ (xs x1 : List ℕ) (a n : ℕ) (ea : a ≡ 25 * n) (w : 25 * n ≤ length xs) (l : length x1 ≡ length (take a xs)) where

@@ -8,11 +8,12 @@ use lib.ListN.{length}
 use Rattle.table.specs.Rows as T
 use Rattle.table.specs.Rows.{NONE, Watch}
 use Rattle.receiver.specs.declared.Part.{Part}
-use Rattle.receiver.specs.declared.Judged.{Judged}
-use Rattle.receiver.specs.declared.Judged.the-variants.{With, Never}
-use Rattle.receiver.specs.declared.WrongBy.{WrongBy}
-use Rattle.receiver.specs.declared.WrongBy.the-variants as By
-use Rattle.flat.specs.Words.{keyWords, heardWords, idWords, clockId, lastWord}
+use Rattle.verdicts.specs.declared.Judged.{Judged}
+use Rattle.verdicts.specs.declared.Judged.the-variants.{With, Never}
+use Rattle.verdicts.specs.declared.WrongBy.{WrongBy}
+use Rattle.verdicts.specs.declared.WrongBy.the-variants as By
+use Rattle.flat.specs.Words.{heardWords}
+use Rattle.packing.specs.Words.{keyWords, idWords, clockId, lastWord}
 
 -- for each word w, h = (h xor w) × 1099511628211 mod 2^64
 unfoldable pub times : ℕ → ℕ

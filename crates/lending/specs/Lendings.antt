@@ -13,7 +13,7 @@ use Rattle.rows.specs.declared.Row.{Row}
 use Rattle.rows.specs.Links.{blank}
 use Rattle.rows.specs.Read.{watchIs}
 use Rattle.flat.specs.Table.{rowsOf}
-use Rattle.grammar.specs.declared.Fault.the-variants as fault
+use Rattle.readers.specs.declared.Fault.the-variants as fault
 use Rattle.lending.specs.declared.Size.{Size}
 use Rattle.lending.specs.declared.Outcome.{Outcome}
 use Rattle.lending.specs.declared.Outcome.the-variants.{Done, Wrong}

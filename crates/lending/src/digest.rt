@@ -1,22 +1,23 @@
 // The digest of a watch, word by word.
 use crate::Size;
-use receiver::Heard;
-use receiver::Judged;
-use receiver::Verdict;
-use receiver::WrongBy;
+use heard::Heard;
 use rows::Row;
 use sites::Altitude;
 use sites::Claimed;
+use verdicts::Judged;
+use verdicts::Verdict;
+use verdicts::WrongBy;
 use view::EpochId;
 ghost use mathlib.Core.Path.{_≡_};
 ghost use mathlib.Core.List.{[], _∷_, map};
 ghost use lib.ListN.{length};
 ghost use Rattle.rows.specs.Read.{rowIs, endsIs, watchIs};
-ghost use Rattle.flat.specs.Words.{keyWords, altitudeWords, siteWords, idWords, heardWords};
+ghost use Rattle.flat.specs.Words.{heardWords};
 ghost use Rattle.flat.specs.Table.{rowsOf};
 ghost use Rattle.lending.specs.Digests as digests;
 ghost use Rattle.lending.specs.Digests.{mixed, mixedAll, linkWord, distanceOf, verdictSix, rowWords, rowsWords, endsWords, firstHash, digestOf};
 ghost use Rattle.lending.specs.Lendings.{Within, lentTo};
+ghost use Rattle.packing.specs.Words.{keyWords, altitudeWords, siteWords, idWords};
 
 // h × 1,099,511,628,211 mod 2^64; the factor is 2^40 + 435.
 fn times(h: u64) -> u64
@@ -50,7 +51,7 @@ fn mix_three(h: u64, a: u64, b: u64, c: u64) -> u64
 fn link_word(n: u32) -> u64
     ensures { λ r. ⌜ r ≡ linkWord n ⌝ }
 {
-    if rows::is_none(n) {
+    if scans::is_none(n) {
         return u64::MAX;
     }
     n as u64
@@ -61,10 +62,10 @@ fn link_word(n: u32) -> u64
 fn mix_key(h: u64, key: [u8; 32]) -> u64
     ensures { λ r. ⌜ r ≡ mixedAll h (keyWords key) ⌝ }
 {
-    let a = flat::key_word(key, 0);
-    let b = flat::key_word(key, 8);
-    let c = flat::key_word(key, 16);
-    let d = flat::key_word(key, 24);
+    let a = packing::key_word(key, 0);
+    let b = packing::key_word(key, 8);
+    let c = packing::key_word(key, 16);
+    let d = packing::key_word(key, 24);
     mix_two(mix_two(h, a, b), c, d)
 }
 
@@ -72,7 +73,7 @@ fn mix_altitude(h: u64, a: Altitude) -> u64
     ensures { λ r. ⌜ r ≡ mixedAll h (altitudeWords a) ⌝ }
 {
     match a {
-        Altitude::Metres(m) => mix_two(h, 1, flat::unsigned(m)),
+        Altitude::Metres(m) => mix_two(h, 1, packing::unsigned(m)),
         Altitude::Unknown => mix_two(h, 0, 0),
     }
 }
@@ -107,7 +108,7 @@ fn mix_heard(h: u64, heard: Heard) -> u64
     let even = heard.even;
     let odd = heard.odd;
     let a = mix_site(h, site);
-    let b = mix(a, flat::wide32(heard.generation));
+    let b = mix(a, packing::wide32(heard.generation));
     mix_id(mix_id(b, even), odd)
 }
 
@@ -115,7 +116,7 @@ fn distance(by: WrongBy) -> u64
     ensures { λ r. ⌜ r ≡ distanceOf by ⌝ }
 {
     match by {
-        WrongBy::Km(d) => flat::wide32(d),
+        WrongBy::Km(d) => packing::wide32(d),
         WrongBy::Nothing => 0,
     }
 }
@@ -125,12 +126,12 @@ fn mix_run(h: u64, v: Verdict) -> u64
 {
     let last = v.last;
     let by = v.wrong_by;
-    let a = mix_three(h, 1, flat::last_word(last), flat::wide8(v.wrong_run));
+    let a = mix_three(h, 1, packing::last_word(last), packing::wide8(v.wrong_run));
     mix_three(
         a,
-        flat::wide8(v.other_run),
+        packing::wide8(v.other_run),
         distance(by),
-        flat::flag(v.moved),
+        packing::flag(v.moved),
     )
 }
 
@@ -154,7 +155,7 @@ fn mix_row(h: u64, row: Row) -> u64
     let b = mix_verdict(a, verdict);
     let c = mix_two(b, link_word(row.prev), link_word(row.next));
     let kept = part.judged_ms;
-    mix_id(c, flat::clock_id(kept))
+    mix_id(c, packing::clock_id(kept))
 }
 
 // ---- the watch
@@ -179,7 +180,7 @@ fn mix_cells(h: u64, cells: &[u32]) -> u64
     let mut g = h;
     let mut i = 0;
     while i < cells.len() {
-        g = mix(g, flat::wide32(cells[i]));
+        g = mix(g, packing::wide32(cells[i]));
         i += 1;
     }
     g
@@ -205,7 +206,7 @@ fn of_all(n: u32, rows: &[u64], cells: &[u32], ends: &[u32; 3]) -> u64
     requires { ⌜ n ≡ length (rowsOf (now rows)) ⌝ }
     ensures { λ r. ⌜ r ≡ digestOf (watchIs (rowsOf (now (rows .entry))) (now (cells .entry)) (now (ends .entry))) ⌝ }
 {
-    let a = mix(first_hash(), flat::wide32(n));
+    let a = mix(first_hash(), packing::wide32(n));
     let b = mix_ends(a, ends);
     let c = mix_rows(b, rows, n);
     mix_cells(c, cells)

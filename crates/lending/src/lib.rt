@@ -1,10 +1,10 @@
 // A watch in a lent piece of memory: its digest, and the lines that write it word by word, junk allowed.
 pub mod digest;
 
-use grammar::Fault;
+use readers::Fault;
 use receiver::Part;
-use rows::Key;
 use rows::Row;
+use scans::Key;
 ghost use mathlib.Core.Path.{_≡_};
 ghost use mathlib.Core.List.{[], _∷_, _++_};
 ghost use Prim.Native.Nat.{_*_, _≤_};
@@ -86,7 +86,7 @@ fn empty_first(cells: &mut [u32], n: u32)
     requires { ⌜ n ≤ length (now cells) ⌝ }
     ensures { λ _. ⌜ now (cells .exit) ≡ replicate n emptyWord ++ drop n (now (cells .entry)) ⌝ }
 {
-    receiver::site::empty(cells, 0, n as usize);
+    heard::empty(cells, 0, n as usize);
 }
 
 fn put_ends(ends: &mut [u32; 3], first: u32, last: u32, free: u32)
@@ -98,7 +98,7 @@ fn put_ends(ends: &mut [u32; 3], first: u32, last: u32, free: u32)
 pub fn no_ends(ends: &mut [u32; 3])
     ensures { λ _. ⌜ now (ends .exit) ≡ noEnds ⌝ }
 {
-    let n = rows::no_row();
+    let n = scans::no_row();
     put_ends(ends, n, n, n);
 }
 

@@ -7,26 +7,27 @@ use mathlib.Core.List.{List, []}
 use lib.ListN.{getD, set}
 use Rattle.table.proofs.Tests.{clash}
 use Rattle.sites.specs.declared.Claimed.{Claimed}
-use Rattle.receiver.specs.Heard.{siteFits}
-use Rattle.receiver.specs.declared.Heard.{Heard}
-use Rattle.receiver.specs.declared.Claiming.{Claiming}
-use Rattle.receiver.specs.declared.Hearing.{Hearing}
+use Rattle.heard.specs.Heard.{siteFits}
+use Rattle.heard.specs.declared.Heard.{Heard}
+use Rattle.heard.specs.declared.Claiming.{Claiming}
+use Rattle.heard.specs.declared.Hearing.{Hearing}
 use Rattle.near_field.specs.declared.Judgment.{Judgment}
-use Rattle.rows.specs.declared.Key.{Key}
 use Rattle.rows.specs.declared.Row.{Row}
-use Rattle.rows.specs.declared.Ends.{Ends}
 use Rattle.rows.specs.declared.Seat.{Seat}
-use Rattle.rows.specs.declared.Look.{Look}
 use Rattle.rows.specs.Links.{blank, releasedRows, releasedEnds}
-use Rattle.rows.specs.Search.{isNo, isUnfit, atOf, numberOf}
 use Rattle.moves.specs.declared.Word.the-variants as Wd
 use Rattle.moves.specs.declared.Answer.{Answer}
 use Rattle.moves.specs.declared.Move.{Move}
 use Rattle.moves.specs.declared.Count.{Count}
 use Rattle.moves.specs.Answers.{saying, freeing}
-use Rattle.moves.specs.Moves.{staying, seatMove, ClaimedRow, by-look, dueLook, judgedRow, judgedAs, judgedRows, removeMove, removedRows}
+use Rattle.moves.specs.Moves.{staying, seatMove, ClaimedRow, by-look, judgedAs, judgedRows, removeMove, removedRows}
 use Rattle.moves.proofs.Entries.{judge-none, judge-kept, remove-none, remove-kept}
 use Rattle.lent.specs.Refusal.{isRefusal, Untouched}
+use Rattle.scans.specs.declared.Key.{Key}
+use Rattle.scans.specs.declared.Ends.{Ends}
+use Rattle.scans.specs.declared.Look.{Look}
+use Rattle.scans.specs.Scan.{isNo, isUnfit, atOf, numberOf}
+use Rattle.bodies.specs.Bodies.{dueLook, judgedRow}
 
 -- REFUSED, NO WORD CHANGES
 pub same-words : (a : Answer) (l : List ℕ) → Untouched a l l

@@ -9,17 +9,18 @@ use borrow.Author.Tests.{not-true, not-false, leb-true}
 use Rattle.table.specs.Questions.{most}
 use Rattle.table.proofs.Tests.{and-1, and-2}
 use Rattle.cells.specs.Cells.{emptyWord}
-use Rattle.receiver.specs.Heard.{width}
+use Rattle.heard.specs.Heard.{width}
 use Rattle.receiver.specs.Calls.{freshCall}
 use Rattle.rows.specs.declared.Row.{Row}
-use Rattle.rows.specs.declared.Ends.{Ends}
 use Rattle.rows.specs.Read.{endsOf, endsIs, watchIs}
-use Rattle.rows.specs.Links.{freshFrom, freshEnds}
+use Rattle.rows.specs.Links.{freshFrom}
 use Rattle.rows.specs.Search.{sizesOf}
 use Rattle.moves.specs.declared.Word.the-variants as Wd
 use Rattle.moves.specs.declared.Answer.{Answer}
 use Rattle.moves.specs.Answers.{outcome, saying}
 use Rattle.moves.proofs.Making.{fresh-no, fresh-yes}
+use Rattle.scans.specs.declared.Ends.{Ends}
+use Rattle.scans.specs.Ends.{freshEnds}
 
 module _ (xs : List Row) (n m : ℕ) (t u : Bool) (long : n ≡ length xs) (test : t ≡ sizesOf n m) (other : u ≡ not t) where
   sizes : t ≡ sizesOf (length xs) m

@@ -3,24 +3,25 @@
 ghost use mathlib.Core.Path.{_≡_};
 ghost use mathlib.Core.Bool.{true, false};
 ghost use lib.ListN.{getD};
-ghost use Rattle.receiver.specs.Heard.{siteFits};
+ghost use Rattle.heard.specs.Heard.{siteFits};
 ghost use Rattle.receiver.specs.Calls as calls;
 ghost use Rattle.rows.specs.Read.{watchIs};
 ghost use Rattle.rows.specs.Links.{blank};
-ghost use Rattle.rows.specs.Search.{isNo, isUnfit, atOf};
 ghost use Rattle.flat.specs.Table.{rowsOf, Left};
 ghost use Rattle.moves.specs.Answers.{answerIs, outcome};
-ghost use Rattle.moves.specs.Moves.{ClaimedRow, HeardRow, dueLook, judgedAs, judgedRows, checkedAs, removeMove, removedRows};
+ghost use Rattle.moves.specs.Moves.{ClaimedRow, HeardRow, judgedAs, judgedRows, checkedAs, removeMove, removedRows};
 ghost use Rattle.lent.specs.Refusal.{Untouched};
+ghost use Rattle.scans.specs.Scan.{isNo, isUnfit, atOf};
+ghost use Rattle.bodies.specs.Bodies.{dueLook};
+use heard::Heard;
+use heard::Position;
 use moves::Answer;
 use moves::Count;
 use moves::Move;
 use near_field::Judgment;
-use receiver::Heard;
-use receiver::Position;
-use rows::Ends;
-use rows::Key;
-use rows::Look;
+use scans::Ends;
+use scans::Key;
+use scans::Look;
 use sites::Claimed;
 
 // ---- check
@@ -29,7 +30,7 @@ use sites::Claimed;
 fn check_row(rows: &[u64], l: Look) -> Answer
     ensures { λ r. ⌜ r ≡ checkedAs l (getD (rowsOf (now (rows .entry))) (atOf l) blank .part .verdict) ⌝ }
 {
-    let bad = rows::is_no(l);
+    let bad = scans::is_no(l);
     if bad {
         return moves::no_to(l);
     }
@@ -52,11 +53,11 @@ pub fn check(rows: &mut [u64], cells: &mut [u32], ends: &mut [u32; 3], key: Key)
 fn remove(rows: &mut [u64], e: Ends, l: Look) -> Move
     ensures { λ r. ⌜ (r ≡ removeMove (rowsOf (now (rows .entry))) e l) × (rowsOf (now (rows .exit)) ≡ removedRows (rowsOf (now (rows .entry))) e l) × Untouched (r .answer) (now (rows .entry)) (now (rows .exit)) ⌝ }
 {
-    let bad = rows::is_no(l);
+    let bad = scans::is_no(l);
     if bad {
         return moves::unfit_move(e, l);
     }
-    let i = rows::at_of(l);
+    let i = scans::at_of(l);
     let row = flat::get(rows, i);
     let d = chains::release(rows, e, i);
     moves::moving(d, l, moves::freed_row(row))
@@ -94,27 +95,27 @@ pub fn drop_oldest(rows: &mut [u64], cells: &mut [u32], ends: &mut [u32; 3]) -> 
 fn due_at(rows: &[u64], l: Look, now_ms: u64) -> Look
     ensures { λ r. ⌜ r ≡ dueLook l (getD (rowsOf (now (rows .entry))) (atOf l) blank .part .«judged_ms») «now_ms» ⌝ }
 {
-    moves::due(l, chains::found(rows, l), now_ms)
+    bodies::due(l, chains::found(rows, l), now_ms)
 }
 
 // What was heard by the row that was found.
 fn heard_at(rows: &[u64], l: Look) -> Heard
     ensures { λ r. ⌜ r ≡ getD (rowsOf (now (rows .entry))) (atOf l) blank .part .heard ⌝ }
 {
-    moves::heard_in(chains::found(rows, l))
+    bodies::heard_in(chains::found(rows, l))
 }
 
 // The judgment and its clock are kept by the row that was found.
 fn judge_row(rows: &mut [u64], l: Look, now_ms: u64, j: Judgment) -> Answer
     ensures { λ r. ⌜ (r ≡ judgedAs l j) × (rowsOf (now (rows .exit)) ≡ judgedRows (rowsOf (now (rows .entry))) l «now_ms» j) × Untouched r (now (rows .entry)) (now (rows .exit)) ⌝ }
 {
-    let bad = rows::is_no(l);
+    let bad = scans::is_no(l);
     if bad {
         return moves::no_to(l);
     }
-    let i = rows::at_of(l);
+    let i = scans::at_of(l);
     let row = flat::get(rows, i);
-    let judged = moves::judged_part(row, now_ms, j);
+    let judged = bodies::judged_part(row, now_ms, j);
     flat::put(rows, i, judged);
     moves::judged(j)
 }
@@ -134,7 +135,7 @@ pub fn judging(
     let l = chains::look_up(rows, cells.len(), e, key);
     let d = due_at(rows, l, now_ms);
     let h = heard_at(rows, d);
-    let j = moves::judge_at(cells, d, h, now_ms, aircraft);
+    let j = bodies::judge_at(cells, d, h, now_ms, aircraft);
     judge_row(rows, d, now_ms, j)
 }
 
@@ -145,18 +146,18 @@ fn hear_row(rows: &mut [u64], e: Ends, l: Look, p: Position) -> Count
     requires { ⌜ (isNo l ≡ false → siteFits (getD (rowsOf (now rows)) (atOf l) blank .part .heard .site) ≡ true) ⌝ }
     ensures { λ r. ⌜ HeardRow (rowsOf (now (rows .entry))) e l p r (rowsOf (now (rows .exit))) × Untouched (r .answer) (now (rows .entry)) (now (rows .exit)) ⌝ }
 {
-    let bad = rows::is_no(l);
+    let bad = scans::is_no(l);
     if bad {
         return moves::uncounted(e, l);
     }
     let row = chains::found(rows, l);
-    let i = rows::at_of(l);
-    let h = moves::hear(row, p);
-    let no = moves::is_unheard(h);
+    let i = scans::at_of(l);
+    let h = bodies::hear(row, p);
+    let no = bodies::is_unheard(h);
     if no {
         return moves::unheard(e, i, h);
     }
-    let part = moves::hear_part(row, h);
+    let part = bodies::hear_part(row, h);
     let d = chains::mark(rows, e, i, part);
     moves::counted(d, i, h)
 }
@@ -186,17 +187,17 @@ fn claim_row(rows: &mut [u64], e: Ends, l: Look, key: Key, site: Claimed) -> Mov
     requires { ⌜ (isUnfit l ≡ false → siteFits (getD (rowsOf (now rows)) (atOf l) blank .part .heard .site) ≡ true) ⌝ }
     ensures { λ r. ⌜ ClaimedRow (rowsOf (now (rows .entry))) e l key site r (rowsOf (now (rows .exit))) × Untouched (r .answer) (now (rows .entry)) (now (rows .exit)) ⌝ }
 {
-    let bad = rows::unfit(l);
+    let bad = scans::unfit(l);
     if bad {
         return moves::unfit_move(e, l);
     }
     let row = chains::found(rows, l);
-    let c = moves::claiming(row, site);
-    let outside = moves::is_refused(c);
+    let c = bodies::claiming(row, site);
+    let outside = bodies::is_refused(c);
     if outside {
         return moves::outside_move(e);
     }
-    let part = moves::claim_part(row, c);
+    let part = bodies::claim_part(row, c);
     let s = chains::insert_active(rows, e, l, key, part);
     moves::seat_move(s, c)
 }
@@ -227,12 +228,12 @@ pub fn fresh(rows: &mut [u64], cells: &mut [u32], ends: &mut [u32; 3]) -> Answer
 {
     let n = flat::count(rows);
     let fit = rows::sizes_fit(n, cells.len());
-    let bad = rows::negated(fit);
+    let bad = scans::negated(fit);
     if bad {
         return moves::no_first();
     }
     chains::fresh_rows(rows, n);
-    moves::fresh_cells(cells);
-    moves::keep(ends, rows::fresh_ends());
+    bodies::fresh_cells(cells);
+    moves::keep(ends, scans::fresh_ends());
     moves::done()
 }

@@ -14,34 +14,36 @@ use Rattle.table.specs.Watch.{refusal}
 use Rattle.table.proofs.Tests.{byBool, clash}
 use Rattle.sites.specs.declared.Claimed.{Claimed}
 use Rattle.near_field.specs.declared.Judgment.{Judgment}
-use Rattle.receiver.specs.declared.Heard.{Heard}
+use Rattle.heard.specs.declared.Heard.{Heard}
 use Rattle.receiver.specs.declared.Part.{Part}
-use Rattle.receiver.specs.declared.Position.{Position}
-use Rattle.receiver.specs.declared.Judged.{Judged}
-use Rattle.receiver.specs.declared.JudgedAt.{JudgedAt}
-use Rattle.receiver.specs.declared.Claiming.{Claiming}
-use Rattle.receiver.specs.declared.Hearing.{Hearing}
-use Rattle.receiver.specs.declared.Hearing.the-variants as Hearings
-use Rattle.receiver.specs.Heard.{width, emptyCells, claimed, positioned}
-use Rattle.receiver.specs.Answers.{claimingIs, hearingIs, HearingFits}
-use Rattle.receiver.specs.Calls.{Act, claim, position, judging, check, takeOut, Out, judgingOf, tooSoon, dropOldest}
-use Rattle.rows.specs.declared.Key.{Key}
+use Rattle.heard.specs.declared.Position.{Position}
+use Rattle.verdicts.specs.declared.Judged.{Judged}
+use Rattle.verdicts.specs.declared.JudgedAt.{JudgedAt}
+use Rattle.heard.specs.declared.Claiming.{Claiming}
+use Rattle.heard.specs.declared.Hearing.{Hearing}
+use Rattle.heard.specs.declared.Hearing.the-variants as Hearings
+use Rattle.heard.specs.Heard.{width, emptyCells, claimed, positioned}
+use Rattle.heard.specs.Answers.{claimingIs, hearingIs, HearingFits}
+use Rattle.receiver.specs.Calls.{Act, claim, position, judging, check, takeOut, Out, judgingOf, dropOldest}
+use Rattle.verdicts.specs.Verdict.{tooSoon}
 use Rattle.rows.specs.declared.Row.{Row}
-use Rattle.rows.specs.declared.Ends.{Ends}
 use Rattle.rows.specs.declared.Seat.{Seat}
-use Rattle.rows.specs.declared.Look.{Look}
-use Rattle.rows.specs.declared.Look.the-variants as L
 use Rattle.rows.specs.Read.{endsOf, endsIs, watchOf, watchIs, Looked}
 use Rattle.rows.specs.Links.{blank, releasedRows, releasedEnds, markedRows, markedEnds, seatOf, seatedRows}
-use Rattle.rows.specs.Search.{isNo, isUnfit, atOf, numberOf}
 use Rattle.moves.specs.declared.Word.the-variants as Wd
 use Rattle.moves.specs.declared.Answer.{Answer}
-use Rattle.moves.specs.Answers.{outcome, saying, freeing, checkAnswer, isRefused, hasMoved, claimPart, isUnheard, hearNo, hearPart, countedBy}
+use Rattle.moves.specs.Answers.{outcome, saying, freeing, checkAnswer, hearNo}
 use Rattle.moves.specs.declared.Move.{Move}
 use Rattle.moves.specs.declared.Count.{Count}
-use Rattle.moves.specs.Moves.{RoomAt, emptiedAt, staying, seatMove, ClaimedRow, by-look, by-site, seated, countedAt, HeardRow, nobody, turned-down, placed, dueLook, judgedAt, judgedRow, judgedAs, judgedRows, checkedAs, removeMove, removedRows, oldestLook}
+use Rattle.moves.specs.Moves.{staying, seatMove, ClaimedRow, by-look, by-site, seated, countedAt, HeardRow, nobody, turned-down, placed, judgedAs, judgedRows, checkedAs, removeMove, removedRows, oldestLook}
 use Rattle.moves.proofs.Looked as Look′
 use Rattle.moves.proofs.Steps as Step′
+use Rattle.scans.specs.declared.Key.{Key}
+use Rattle.scans.specs.declared.Ends.{Ends}
+use Rattle.scans.specs.declared.Look.{Look}
+use Rattle.scans.specs.declared.Look.the-variants as L
+use Rattle.scans.specs.Scan.{isNo, isUnfit, atOf, numberOf}
+use Rattle.bodies.specs.Bodies.{isRefused, hasMoved, claimPart, isUnheard, hearPart, countedBy, RoomAt, emptiedAt, dueLook, judgedAt, judgedRow}
 
 -- THE ROWS ALONE: the ways out of claim_row and hear_row
 pub claim-left : (xs : List Row) (e : Ends) (l : Look) (k : Key) (site : Claimed) (row : Row) (c : Claiming) (m : Move) → isUnfit l ≡ false → row ≡ getD xs (atOf l) blank → ((n : List ℕ) → claimingIs c n ≡ claimed (row .part .heard) n site) → isRefused c ≡ true → m ≡ staying e (saying (Wd.Refused 4))

@@ -4,22 +4,20 @@
 --     no-step, unfit-step  the refusals 1 to 3
 --     held-site, fit-site, look-room, seat-room   what the next functions ask: a site within degrees, a row's cells among all
 use mathlib.Core.Path.{_≡_, refl, sym, _∙_, ap, ap₂, subst}
-use mathlib.Core.Logic.{_≢_}
 use Prim.Native.Nat.{ℕ, zero, suc, _<_, _≤_, _+_, _*_}
 use native.Mathlib.Omega.{arith}
 use native.Mathlib.Nat.{mul-le-mul-left}
-use mathlib.Core.Bool.{Bool, true, false, cond, not, _&&_, _||_}
+use mathlib.Core.Bool.{true, false, cond}
 use mathlib.Core.Option.{Option, none, some}
 use mathlib.Core.List.{List, [], _∷_, map}
 use lib.Dec.{eqb}
 use lib.ListN.{length, getD, take, drop, List·getD-eq-default}
-use borrow.Author.Tests.{not-true, not-false}
 use Rattle.table.specs.Machine as M
-use Rattle.table.specs.Machine.{same, Step, Outcome, refuse, accept, refused, said}
+use Rattle.table.specs.Machine.{same, Step, Outcome}
 use Rattle.table.specs.Rows as T
 use Rattle.table.specs.Rows.{NONE, Watch, chainOf, rowAt}
 use Rattle.table.specs.Questions.{question1, question2, findRow}
-use Rattle.table.specs.Watch.{Body, bodyAt, freshBody, refusal, onRow, onNone, located, watchStep}
+use Rattle.table.specs.Watch.{Body, bodyAt, freshBody, refusal, onRow, onNone, located}
 use Rattle.table.proofs.Tests.{byBool, clash, and-1, eqb-true, eqb-false}
 use Rattle.table.proofs.Keys.{same-eq}
 use Rattle.table.proofs.Numbers.{below-none}
@@ -27,23 +25,23 @@ use Rattle.table.proofs.Linked.{Chained}
 use Rattle.table.proofs.Question2.{Sizes, question-one, most-none, Question2, question-two}
 use Rattle.table.proofs.Safe.{head-row, free-row, found-row}
 use Rattle.receiver.specs.declared.Part.{Part}
-use Rattle.receiver.specs.Heard.{width, siteFits}
-use Rattle.receiver.specs.Verdict.{verdictFits}
+use Rattle.heard.specs.Heard.{width, siteFits}
+use Rattle.verdicts.specs.Verdict.{verdictFits}
 use Rattle.receiver.specs.Calls.{Act, Out, kind, rowAct, siting, unmadePart, callOn}
-use Rattle.rows.specs.declared.Key.{Key}
 use Rattle.rows.specs.declared.Row.{Row}
-use Rattle.rows.specs.declared.Ends.{Ends}
 use Rattle.rows.specs.declared.Seat.{Seat}
-use Rattle.rows.specs.declared.Look.{Look}
-use Rattle.rows.specs.declared.Look.the-variants as L
 use Rattle.rows.specs.Read.{form, fits, rowIs, endsOf, endsIs, watchOf, watchIs, foundIs, lookedIn, Looked}
 use Rattle.rows.specs.Links.{blank, roomEnds, seatOf}
-use Rattle.rows.specs.Search.{isNo, isUnfit, atOf, numberOf}
 use Rattle.rows.proofs.Chains.{rows-long, row-is}
 use Rattle.moves.specs.declared.Word.the-variants as Wd
 use Rattle.moves.specs.declared.Answer.{Answer}
 use Rattle.moves.specs.Answers.{answerIs, outcome, saying}
-use Rattle.moves.specs.Moves.{RoomAt}
+use Rattle.scans.specs.declared.Key.{Key}
+use Rattle.scans.specs.declared.Ends.{Ends}
+use Rattle.scans.specs.declared.Look.{Look}
+use Rattle.scans.specs.declared.Look.the-variants as L
+use Rattle.scans.specs.Scan.{isNo, isUnfit, atOf, numberOf}
+use Rattle.bodies.specs.Bodies.{RoomAt}
 
 -- row i's part and cells
 abbrev pub bodyOf : List Row → List ℕ → ℕ → Body Part

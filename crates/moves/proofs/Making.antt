@@ -1,34 +1,33 @@
 -- A fresh watch: what `fresh` leaves is the definition's. Facts on lists alone.
-use mathlib.Core.Path.{_≡_, refl, sym, _∙_, ap, ap₂}
-use Prim.Native.Nat.{ℕ, zero, suc, _≤_, _+_, _*_}
+use mathlib.Core.Path.{_≡_, sym, _∙_, ap, ap₂}
+use Prim.Native.Nat.{ℕ, _≤_, _*_}
 use native.Mathlib.Omega.{arith}
-use mathlib.Core.Bool.{Bool, true, false, cond, _&&_}
-use mathlib.Core.Option.{none}
-use mathlib.Core.List.{List, [], _∷_, _++_, map, append-nil}
+use mathlib.Core.Bool.{Bool, true, false, _&&_}
+use mathlib.Core.List.{List, map}
 use lib.Dec.{eqb, leb}
-use lib.ListN.{length, replicate, take, drop, length-replicate}
-use lib.Seq.{sets, sets-eq}
+use lib.ListN.{length, replicate}
 use borrow.Author.Tests.{eqb-true, leb-true}
-use Rattle.table.specs.Machine.{Step, said, refused}
-use Rattle.table.specs.Rows.{NONE, Watch}
+use Rattle.table.specs.Machine.{Step}
+use Rattle.table.specs.Rows.{Watch}
 use Rattle.table.specs.Questions.{most, question1}
-use Rattle.table.specs.Watch.{freshWatch, freshRows, repeated, refusal}
+use Rattle.table.specs.Watch.{freshWatch, repeated}
 use Rattle.table.proofs.Tests.{and-1, and-2, eqb-no}
 use Rattle.table.proofs.Made.{repeated-same}
 use Rattle.cells.specs.Cells.{emptyWord}
 use Rattle.receiver.specs.declared.Part.{Part}
-use Rattle.receiver.specs.Heard.{width, emptyCells}
-use Rattle.receiver.specs.Calls.{Out, done, unmadePart, freshCall}
+use Rattle.heard.specs.Heard.{width, emptyCells}
+use Rattle.receiver.specs.Calls.{Out, freshCall}
 use Rattle.rows.specs.declared.Row.{Row}
-use Rattle.rows.specs.declared.Ends.{Ends}
 use Rattle.rows.specs.Read.{form, rowIs, endsOf, endsIs, watchIs}
-use Rattle.rows.specs.Links.{freshFrom, freshEnds}
+use Rattle.rows.specs.Links.{freshFrom}
 use Rattle.rows.specs.Search.{sizesOf}
 use Rattle.rows.proofs.Chains.{rows-long}
 use Rattle.rows.proofs.Making.{rows-are}
 use Rattle.moves.specs.declared.Word.the-variants as Wd
 use Rattle.moves.specs.declared.Answer.{Answer}
 use Rattle.moves.specs.Answers.{answerIs, outcome, saying}
+use Rattle.scans.specs.declared.Ends.{Ends}
+use Rattle.scans.specs.Ends.{freshEnds}
 
 sizes-so : (xs : List Row) (ys ws : List ℕ) → question1 form (watchIs xs ys ws) ≡ sizesOf (length xs) (length ys)
 unfolding question1
@@ -55,20 +54,3 @@ fresh-yes xs ys ws t zs cs vs d r e h z c q k v =
     let many : length ys ≡ width * length xs = eqb-true (length ys) (width * length xs) (and-2 (leb (length xs) most) (eqb (length ys) (width * length xs)) b) in
     let made : watchIs zs cs vs ≡ freshWatch form (length (map rowIs xs)) = rw (rows-long xs, k, q, z, c, many, cells-are (length xs), rows-are (length xs) 0 (length xs) (omega arith) most-rows, eqb-no (length xs) 0 (λ x. omega (arith, x, some-row))) in
     ap₂ {C = Step (Watch Part) Out} (λ (x : Watch Part) (y : Answer). record { next = x; answer = answerIs y }) made v ∙ sym (rw s)
-
--- emptied from end to end
-pub emptied-all : (l zs : List ℕ) (n : ℕ) → n ≡ length l → zs ≡ sets l 0 (replicate n emptyWord) → zs ≡ replicate (length l) emptyWord
-emptied-all l zs n e h =
-    let vs = replicate (length l) emptyWord in
-    let m : length vs ≡ length l = length-replicate (length l) emptyWord in
-    h ∙ ap (λ (j : ℕ). sets l 0 (replicate j emptyWord)) e ∙ sets-eq vs l 0 (omega (arith, m)) ∙ ap (λ (x : List ℕ). take 0 l ++ vs ++ x) (all-gone l (0 + length vs) (omega (arith, m))) ∙ tidy l vs
-  where
-    all-gone : (x : List ℕ) (i : ℕ) → length x ≤ i → drop i x ≡ []
-    all-gone [] zero g = refl
-    all-gone [] (suc i) g = refl
-    all-gone (a ∷ x) zero g = absurd (omega arith)
-    all-gone (a ∷ x) (suc i) g = all-gone x i (omega arith)
-
-    tidy : (x vs : List ℕ) → take 0 x ++ vs ++ [] ≡ vs
-    tidy [] vs = append-nil vs
-    tidy (a ∷ x) vs = append-nil vs

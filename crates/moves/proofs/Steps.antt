@@ -21,37 +21,38 @@ use Rattle.table.proofs.Cells.{cells-same}
 use Rattle.table.proofs.Stores.{back-same, put-unchanged}
 use Rattle.sites.specs.declared.Claimed.{Claimed}
 use Rattle.near_field.specs.declared.Judgment.{Judgment}
-use Rattle.receiver.specs.declared.Heard.{Heard}
+use Rattle.heard.specs.declared.Heard.{Heard}
 use Rattle.receiver.specs.declared.Part.{Part}
-use Rattle.receiver.specs.declared.Position.{Position}
-use Rattle.receiver.specs.declared.Judged.{Judged}
-use Rattle.receiver.specs.declared.Judged.the-variants.{With, Never}
-use Rattle.receiver.specs.declared.Claiming.{Claiming}
-use Rattle.receiver.specs.declared.Claiming.the-variants as Claimings
-use Rattle.receiver.specs.declared.Hearing.{Hearing}
-use Rattle.receiver.specs.declared.Hearing.the-variants as Hearings
-use Rattle.receiver.specs.Heard.{width, emptyCells, Moved, claimed, positioned}
-use Rattle.receiver.specs.Verdict.{saysVerdict}
-use Rattle.receiver.specs.Answers.{claimingIs, hearingIs}
-use Rattle.receiver.specs.Calls.{Act, claim, position, judging, check, takeOut, Out, generationIs, judgmentIs, says, freed, done, kind, rowAct, claimDone, positionDone, judgingOf, tooSoon, judgedPart, siting, unmadePart, dropOldest}
-use Rattle.rows.specs.declared.Key.{Key}
+use Rattle.heard.specs.declared.Position.{Position}
+use Rattle.verdicts.specs.declared.Judged.{Judged}
+use Rattle.verdicts.specs.declared.Judged.the-variants.{With, Never}
+use Rattle.heard.specs.declared.Claiming.{Claiming}
+use Rattle.heard.specs.declared.Claiming.the-variants as Claimings
+use Rattle.heard.specs.declared.Hearing.{Hearing}
+use Rattle.heard.specs.declared.Hearing.the-variants as Hearings
+use Rattle.heard.specs.Heard.{width, emptyCells, Moved, claimed, positioned}
+use Rattle.verdicts.specs.Verdict.{saysVerdict, tooSoon}
+use Rattle.heard.specs.Answers.{claimingIs, hearingIs}
+use Rattle.receiver.specs.Calls.{Act, claim, position, judging, check, takeOut, Out, generationIs, judgmentIs, says, freed, done, kind, rowAct, claimDone, positionDone, judgingOf, judgedPart, siting, unmadePart, dropOldest}
 use Rattle.rows.specs.declared.Row.{Row}
-use Rattle.rows.specs.declared.Ends.{Ends}
 use Rattle.rows.specs.declared.Seat.{Seat}
-use Rattle.rows.specs.declared.Look.{Look}
-use Rattle.rows.specs.declared.Look.the-variants as L
 use Rattle.rows.specs.Read.{form, rowIs, endsOf, endsIs, watchOf, watchIs, lookedIn, foundIs, Looked}
 use Rattle.rows.specs.Links.{blank, withPart, partedRows, releasedRows, releasedEnds, markedRows, markedEnds, roomRows, roomEnds, enteredRows, enteredEnds, seatOf, seatedRows, madeSeat}
-use Rattle.rows.specs.Search.{isNo, isUnfit, atOf, numberOf}
 use Rattle.rows.proofs.Chains.{row-is, unlinked-long, free-is, touch-is, put-is, take-is, room-is}
 use Rattle.moves.specs.declared.Word.the-variants as Wd
 use Rattle.moves.specs.declared.Answer.{Answer}
-use Rattle.moves.specs.Answers.{answerIs, outcome, saying, freeing, checkAnswer, isRefused, hasMoved, heardOf, claimPart, claimAnswer, isUnheard, hearNo, hearPart, countedBy}
+use Rattle.moves.specs.Answers.{answerIs, outcome, saying, freeing, checkAnswer, claimAnswer, hearNo}
 use Rattle.moves.specs.declared.Move.{Move}
-use Rattle.moves.specs.Moves.{emptiedAt, staying, clearOf, judgedRow}
-use Rattle.moves.proofs.Laws.{empty-wide}
+use Rattle.moves.specs.Moves.{staying, clearOf}
 use Rattle.moves.proofs.Looked as Look′
 use Rattle.moves.proofs.Looked.{bodyOf, byLook}
+use Rattle.scans.specs.declared.Key.{Key}
+use Rattle.scans.specs.declared.Ends.{Ends}
+use Rattle.scans.specs.declared.Look.{Look}
+use Rattle.scans.specs.declared.Look.the-variants as L
+use Rattle.scans.specs.Scan.{isNo, isUnfit, atOf, numberOf}
+use Rattle.bodies.specs.Bodies.{isRefused, hasMoved, heardOf, claimPart, isUnheard, hearPart, countedBy, emptiedAt, judgedRow}
+use Rattle.bodies.proofs.Laws.{empty-wide}
 
 -- DECISIONS, as the definitions'
 abbrev claimBody : Part → Claiming → List ℕ → Body Part

@@ -1,48 +1,34 @@
 -- What the calls come to on the rows alone, by the row that was found or the number of the first no. Definitions only; proofs/Entries shows them to be
 -- the definitions' calls.
 use mathlib.Core.Path.{_≡_}
-use Prim.Native.Nat.{ℕ, _+_, _*_, _≤_}
-use mathlib.Core.Bool.{Bool, true, false, cond, _||_}
+use Prim.Native.Nat.{ℕ, _*_}
+use mathlib.Core.Bool.{true, false, cond, _||_}
 use mathlib.Core.List.{List}
 use lib.Dec.{eqb}
-use lib.ListN.{length, getD, set, take, drop}
+use lib.ListN.{getD, set, take, drop}
 use lib.Seq.{sets}
 use Rattle.table.specs.Rows.{NONE}
 use Rattle.sites.specs.declared.Claimed.{Claimed}
 use Rattle.near_field.specs.declared.Judgment.{Judgment}
-use Rattle.near_field.specs.declared.Judgment.the-variants as Found
-use Rattle.receiver.specs.declared.Heard.{Heard}
-use Rattle.receiver.specs.declared.Judged.{Judged}
-use Rattle.receiver.specs.declared.JudgedAt.{JudgedAt}
-use Rattle.receiver.specs.declared.Position.{Position}
-use Rattle.receiver.specs.declared.Claiming.{Claiming}
-use Rattle.receiver.specs.declared.Hearing.{Hearing}
-use Rattle.receiver.specs.Heard.{width, emptyCells, claimed, positioned}
-use Rattle.receiver.specs.Answers.{claimingIs, hearingIs, HearingFits}
-use Rattle.receiver.specs.Calls.{judgingOf, tooSoon, judgedPart}
-use Rattle.rows.specs.declared.Key.{Key}
+use Rattle.verdicts.specs.declared.Judged.{Judged}
+use Rattle.heard.specs.declared.Position.{Position}
+use Rattle.heard.specs.declared.Claiming.{Claiming}
+use Rattle.heard.specs.Heard.{width, claimed, positioned}
+use Rattle.heard.specs.Answers.{claimingIs, hearingIs, HearingFits}
 use Rattle.rows.specs.declared.Row.{Row}
-use Rattle.rows.specs.declared.Ends.{Ends}
 use Rattle.rows.specs.declared.Seat.{Seat}
-use Rattle.rows.specs.declared.Look.{Look}
-use Rattle.rows.specs.declared.Look.the-variants as L
-use Rattle.rows.specs.Links.{blank, withPart, releasedRows, releasedEnds, markedRows, markedEnds, seatOf, seatedRows}
-use Rattle.rows.specs.Search.{isNo, isUnfit, atOf, numberOf}
+use Rattle.rows.specs.Links.{blank, releasedRows, releasedEnds, markedRows, markedEnds, seatOf, seatedRows}
 use Rattle.moves.specs.declared.Word.the-variants as Wd
 use Rattle.moves.specs.declared.Answer.{Answer}
 use Rattle.moves.specs.declared.Move.{Move}
 use Rattle.moves.specs.declared.Count.{Count}
-use Rattle.moves.specs.Answers.{saying, freeing, checkAnswer, isRefused, hasMoved, claimPart, claimAnswer, isUnheard, hearNo, hearPart, countedBy}
-
--- CELLS OF THE ROW THAT WAS FOUND
--- they are among n
-abbrev pub RoomAt : Look → ℕ → Type 0
-RoomAt (L.No m) n = Unit {0}
-RoomAt (L.At i) n = width * i + width ≤ n
-
-abbrev pub emptiedAt : List ℕ → Look → List ℕ
-emptiedAt l (L.No m) = l
-emptiedAt l (L.At i) = sets l (width * i) emptyCells
+use Rattle.moves.specs.Answers.{saying, freeing, checkAnswer, claimAnswer, hearNo}
+use Rattle.scans.specs.declared.Key.{Key}
+use Rattle.scans.specs.declared.Ends.{Ends}
+use Rattle.scans.specs.declared.Look.{Look}
+use Rattle.scans.specs.declared.Look.the-variants as L
+use Rattle.scans.specs.Scan.{isNo, isUnfit, atOf, numberOf}
+use Rattle.bodies.specs.Bodies.{isRefused, hasMoved, claimPart, isUnheard, hearPart, countedBy, judgedRow}
 
 -- NOTHING CHANGES
 abbrev pub staying : Ends → Answer → Move
@@ -65,18 +51,7 @@ abbrev pub checkedAs : Look → Judged → Answer
 checkedAs (L.No n) v = saying (Wd.Refused n)
 checkedAs (L.At i) v = checkAnswer v
 
--- JUDGING: the row that was found, unless it is too soon, which is 9
-abbrev pub dueLook : Look → JudgedAt → ℕ → Look
-dueLook (L.No n) kept now = L.No n
-dueLook (L.At i) kept now = cond (tooSoon kept now) (L.No 9) (L.At i)
-
-abbrev pub judgedAt : Look → Heard → List ℕ → ℕ → ℕ → Judgment
-judgedAt (L.No n) h l now aircraft = Found.Unjudged
-judgedAt (L.At i) h l now aircraft = judgingOf h (take width (drop (width * i) l)) now aircraft
-
-abbrev pub judgedRow : Row → ℕ → Judgment → Row
-judgedRow r now j = withPart r (judgedPart (r .part) now j)
-
+-- JUDGING
 abbrev pub judgedAs : Look → Judgment → Answer
 judgedAs (L.No n) j = saying (Wd.Refused n)
 judgedAs (L.At i) j = saying (Wd.Judged j)

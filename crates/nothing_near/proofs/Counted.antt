@@ -1,8 +1,8 @@
--- The counts and sums of specs/Counted are what the places heard have: their number, their positions, and how many are under 60 km.
+-- The counts of specs/Counted, and the sums of crate `nearest`'s, are what the places heard have: their number, their positions, and how many are under 60 km.
 -- Assumes nothing.
-use mathlib.Core.Path.{_≡_, refl, ap, _∙_}
+use mathlib.Core.Path.{_≡_, refl, sym, ap, _∙_}
 use mathlib.Core.Bool.{Bool, true, false, _&&_, cond}
-use mathlib.Core.List.{List}
+use mathlib.Core.List.{List, [], _∷_, _++_}
 use Prim.Native.Nat.{ℕ, zero, suc, _+_, _-_, _%_, _<_}
 use native.Mathlib.Nat.{mod-lt, zero-lt-suc, add-zero}
 use native.Mathlib.Omega.{arith}
@@ -10,17 +10,35 @@ use borrow.Author.Tests.{ltb-true, lt-ltb, lt-leb}
 use lib.Dec.{leb, ltb}
 use lib.ListN.{length, getD}
 use Rattle.cells.specs.Cells.{countOf, occupiedWord}
-use Rattle.cells.specs.Passes.{sumOf, first}
+use Rattle.cells.specs.Passes.{pass, sumOf}
 use Rattle.cells.proofs.Passes.{pass-all}
 use Rattle.view.specs.declared.Far.{Far}
 use Rattle.plane.specs.Plane.{square, fromSite, steps}
 use Rattle.near_field.specs.Near.{cellsWithin}
 use Rattle.near_field.proofs.Sorted.{sumWhere, countWhere, length-where, within}
-use Rattle.nothing_near.specs.Nothing.{Place, nearestOf, typicalOf, positionsOf, km, edges, halfway, cellPlace, binPlace, heard, placesHeard, places, positionsIn}
-use Rattle.nothing_near.specs.Counted.{positionsAmong, occupiedAmong, nearCells, cellStep, binStep}
-use Rattle.nothing_near.proofs.Weights.{sum-append, total-where}
-use Rattle.nothing_near.proofs.Sums.{heard-sum}
-use Rattle.nothing_near.proofs.Steps.{every, every-at, limit, steps-within}
+use Rattle.nearest.specs.Nothing.{Place, nearestOf, typicalOf, positionsOf, km, edges, halfway, cellPlace, binPlace, heard, placesHeard, places, positionsIn}
+use Rattle.nearest.specs.Counted.{positionsAmong, cellStep, binStep}
+use Rattle.nothing_near.specs.Counted.{occupiedAmong, nearCells}
+use Rattle.nothing_near.proofs.Weights.{sum-append, sum-one, total-where}
+use Rattle.nearest.proofs.Sums.{sum-next}
+use Rattle.nearest.proofs.Steps.{every, every-at, limit, steps-within}
+
+-- ---- the places heard
+module _ (place : ℕ → Place) (words : List ℕ) (p : Place → Bool) (w : Place → ℕ) (q : ℕ → Bool) (f : ℕ → ℕ)
+    (same : (i : ℕ) → cond (occupiedWord (getD words i 0)) (cond (p (place i)) (w (place i)) 0) 0 ≡ cond (q i) (f i) 0) where
+  grown : (o : Bool) (i : ℕ) (l : List Place)
+      → sumWhere p w (cond o (l ++ (place i ∷ [])) l) ≡ sumWhere p w l + cond o (cond (p (place i)) (w (place i)) 0) 0
+  grown true i l = sum-append p w l (place i ∷ []) ∙ ap (λ (n : ℕ). sumWhere p w l + n) (sum-one p w (place i))
+  grown false i l = omega arith
+
+  -- the sum over the places heard, where each adds what its number adds
+  pub heard-sum : (n : ℕ) → sumWhere p w (heard place words n) ≡ sumOf q f n
+  unfolding heard pass sumWhere
+  heard-sum zero = refl
+  heard-sum (suc n) =
+      grown (occupiedWord (getD words n 0)) n (heard place words n)
+      ∙ ap (λ (m : ℕ). m + cond (occupiedWord (getD words n 0)) (cond (p (place n)) (w (place n)) 0) 0) (heard-sum n)
+      ∙ ap (λ (m : ℕ). sumOf q f n + m) (same n) ∙ sym (sum-next q f n)
 
 -- ---- a sum over the places heard is the cells' and the bins'
 module _ (grid : List ℕ) (far : Far) (p : Place → Bool) (w : Place → ℕ) where

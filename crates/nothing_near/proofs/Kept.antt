@@ -16,16 +16,17 @@ use Rattle.cells.proofs.Passes.{pass-all}
 use Rattle.view.specs.declared.Far.{Far}
 use Rattle.near_field.specs.Sorted.{ascending}
 use Rattle.near_field.proofs.Sorted.{sumWhere, countWhere, sum-ascending, ascending-length}
-use Rattle.nothing_near.specs.Weights.{total}
-use Rattle.nothing_near.specs.Nothing.{Place, nearestOf, positionsOf, cellPlace, binPlace, placesHeard, thirdOrLast, fromThird, positionsIn}
-use Rattle.nothing_near.specs.declared.Spot.{Spot}
-use Rattle.nothing_near.specs.declared.Nearest.{Nearest}
-use Rattle.nothing_near.specs.Counted.{cellStep, binStep, below, allSteps, stepOf, spotOf, noPlace, firstTwo, twoNearest, Kept}
+use Rattle.nearest.specs.Weights.{total}
+use Rattle.nearest.specs.Nothing.{Place, nearestOf, positionsOf, cellPlace, binPlace, placesHeard, thirdOrLast, fromThird, positionsIn}
+use Rattle.nearest.specs.declared.Spot.{Spot}
+use Rattle.nearest.specs.declared.Nearest.{Nearest}
+use Rattle.nearest.specs.Counted.{cellStep, binStep, below, allSteps, stepOf, spotOf, noPlace, firstTwo, twoNearest}
+use Rattle.nothing_near.specs.Counted.{Kept}
 use Rattle.nothing_near.proofs.Weights.{where-more, total-where}
-use Rattle.nothing_near.proofs.Steps.{step-small}
-use Rattle.nothing_near.proofs.Gathered.{below-suc, raised, bins-below}
+use Rattle.nearest.proofs.Steps.{step-small}
+use Rattle.nearest.proofs.Gathered.{below-suc, raised, bins-below}
 use Rattle.nothing_near.proofs.Counted.{both-sums, only-occupied, positions-counted}
-use Rattle.nothing_near.proofs.Sums.{positions-fit}
+use Rattle.nearest.proofs.Sums.{positions-fit}
 
 -- ---- the positions of some places by their steps
 abbrev stepBelow : ℕ → Place → Bool

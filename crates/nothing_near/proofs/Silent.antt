@@ -14,10 +14,11 @@ use Rattle.cells.proofs.Words.{zero-free}
 use Rattle.view.specs.View.{Unheard}
 use Rattle.plane.specs.Plane.{northOf, apart, square, fromSite}
 use Rattle.plane.proofs.Squares.{square-le}
-use Rattle.nothing_near.specs.Nothing.{Place, km, cellPlace, heard}
-use Rattle.nothing_near.specs.Counted.{positionsAmong, nearCells, cellStep, noSteps, gather, cellSteps}
-use Rattle.nothing_near.proofs.Sums.{sum-next, sum-more}
-use Rattle.nothing_near.proofs.Gathered.{gather-none}
+use Rattle.nearest.specs.Nothing.{Place, km, cellPlace, heard}
+use Rattle.nearest.specs.Counted.{positionsAmong, cellStep, noSteps, gather, cellSteps}
+use Rattle.nothing_near.specs.Counted.{nearCells}
+use Rattle.nearest.proofs.Sums.{sum-next, sum-more}
+use Rattle.nearest.proofs.Gathered.{gather-none}
 
 hidden : (o : Bool) → (o && false) ≡ false
 hidden true = refl

@@ -11,8 +11,8 @@ use lib.ListN.{length}
 use Rattle.view.specs.declared.Far.{Far}
 use Rattle.plane.specs.Plane.{square}
 use Rattle.near_field.proofs.Sorted.{element-within}
-use Rattle.nothing_near.specs.Weights.{total}
-use Rattle.nothing_near.specs.Nothing.{Place, nearestOf, km, placesHeard, places, thirdOrLast, third, positionsIn}
+use Rattle.nearest.specs.Weights.{total}
+use Rattle.nearest.specs.Nothing.{Place, nearestOf, km, placesHeard, places, thirdOrLast, third, positionsIn}
 use Rattle.nothing_near.specs.Counted.{nearCells}
 use Rattle.nothing_near.proofs.Counted.{near-counted}
 

@@ -12,12 +12,13 @@ use Rattle.cells.specs.Passes.{first}
 use Rattle.cells.proofs.Passes.{first-unique}
 use Rattle.plane.specs.Plane.{steps}
 use Rattle.near_field.proofs.Sorted.{within}
-use Rattle.nothing_near.specs.Nothing.{Place, typicalOf, positionsOf, positionsIn, typicalIn}
-use Rattle.nothing_near.specs.Counted.{below, reachedAt, stepOf}
+use Rattle.nearest.specs.Nothing.{Place, typicalOf, positionsOf, positionsIn, typicalIn}
+use Rattle.nearest.specs.Counted.{below, stepOf}
+use Rattle.nothing_near.specs.Counted.{reachedAt}
 use Rattle.nothing_near.proofs.Weights.{where-same, reaching-within}
-use Rattle.nothing_near.proofs.Gathered.{below-suc}
+use Rattle.nearest.proofs.Gathered.{below-suc}
 use Rattle.nothing_near.proofs.Kept.{Gathers}
-use Rattle.nothing_near.proofs.Steps.{limit, steps-within, step-small}
+use Rattle.nearest.proofs.Steps.{limit, steps-within, step-small}
 
 -- ---- the code's search over the steps
 pub found-steps : (at : List ℕ) (sum k : ℕ) → k ≤ 160 → ((j : ℕ) → j < k → reachedAt at sum j ≡ false) → (k < 160 → reachedAt at sum k ≡ true) → k ≡ first (reachedAt at sum) 160

@@ -10,7 +10,7 @@ use borrow.Author.Tests.{leb-true, leb-false, le-leb, lt-leb}
 use lib.Dec.{leb}
 use Rattle.near_field.specs.Sorted.{ascending}
 use Rattle.near_field.proofs.Sorted.{sumWhere, sum-ascending, From, from-ascending, within, none-within}
-use Rattle.nothing_near.specs.Weights.{firstReaching, total}
+use Rattle.nearest.specs.Weights.{firstReaching, total}
 
 -- ---- the weights of those that have p
 module _ {A : Type 0} (p : A → Bool) (w : A → ℕ) where

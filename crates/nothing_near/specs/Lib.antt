@@ -1,4 +1,2 @@
 -- The definitions that the contracts cite.
-pub mod Weights
-pub mod Nothing
 pub mod Counted

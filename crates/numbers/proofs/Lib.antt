@@ -1,3 +1,1 @@
 pub mod Values
-pub mod Decimals
-pub mod Keys

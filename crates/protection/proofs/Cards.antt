@@ -10,14 +10,14 @@ use Rattle.table.specs.Watch.{Body, rowedMachine}
 use Rattle.table.proofs.Tests.{byBool}
 use Rattle.near_field.specs.declared.Judgment.{Judgment}
 use Rattle.near_field.specs.declared.Judgment.the-variants.{Unjudged, Fits, Wrong}
-use Rattle.receiver.specs.declared.Heard.{Heard}
+use Rattle.heard.specs.declared.Heard.{Heard}
 use Rattle.receiver.specs.declared.Part.{Part}
-use Rattle.receiver.specs.declared.Verdict.{Verdict}
-use Rattle.receiver.specs.declared.Judged.{Judged}
-use Rattle.receiver.specs.declared.Judged.the-variants.{With, Never}
-use Rattle.receiver.specs.Verdict.{wrongly, otherwise, judgedOnce, goesOn}
-use Rattle.receiver.specs.Heard.{emptyCells, unheard, Moved, moved, stayed, claimed, positioned}
-use Rattle.receiver.specs.Calls.{Act, claim, position, judging, check, takeOut, Out, generationIs, judgmentIs, says, freed, done, kind, endedBy, claimDone, positionDone, judgingOf, tooSoon, judgingDone, checkDone, rowAct, siting}
+use Rattle.verdicts.specs.declared.Verdict.{Verdict}
+use Rattle.verdicts.specs.declared.Judged.{Judged}
+use Rattle.verdicts.specs.declared.Judged.the-variants.{With, Never}
+use Rattle.verdicts.specs.Verdict.{wrongly, otherwise, judgedOnce, goesOn, tooSoon}
+use Rattle.heard.specs.Heard.{emptyCells, unheard, Moved, moved, stayed, claimed, positioned}
+use Rattle.receiver.specs.Calls.{Act, claim, position, judging, check, takeOut, Out, generationIs, judgmentIs, says, freed, done, kind, endedBy, claimDone, positionDone, judgingOf, judgingDone, checkDone, rowAct, siting}
 use Rattle.protection.specs.Run.{Run, saysOf}
 use Rattle.protection.specs.Card.{Card, filled, noted, cardClaimed, cardPlaced, judgedCard, cardJudged, cardChecked, cardStep, cardAnswers, cardAfter}
 use Rattle.protection.proofs.Alone.{settle, alone, answersAlone, aloneAfter}

@@ -8,13 +8,13 @@ use mathlib.Core.List.{[], _∷_}
 use lib.Dec.{leb}
 use Rattle.near_field.specs.declared.Judgment.{Judgment}
 use Rattle.near_field.specs.declared.Judgment.the-variants.{Unjudged, Fits, Wrong}
-use Rattle.receiver.specs.declared.Last.{Last}
-use Rattle.receiver.specs.declared.Last.the-variants as Last
-use Rattle.receiver.specs.declared.WrongBy.{WrongBy}
-use Rattle.receiver.specs.declared.WrongBy.the-variants.{Km, Nothing}
-use Rattle.receiver.specs.declared.Verdict.{Verdict}
-use Rattle.receiver.specs.declared.CheckState.the-variants as Says
-use Rattle.receiver.specs.Verdict.{up, isHeld, wrongly, otherwise, judgedOnce, begun, plainly, saysBy, saysVerdict}
+use Rattle.verdicts.specs.declared.Last.{Last}
+use Rattle.verdicts.specs.declared.Last.the-variants as Last
+use Rattle.verdicts.specs.declared.WrongBy.{WrongBy}
+use Rattle.verdicts.specs.declared.WrongBy.the-variants.{Km, Nothing}
+use Rattle.verdicts.specs.declared.Verdict.{Verdict}
+use Rattle.verdicts.specs.declared.CheckState.the-variants as Says
+use Rattle.verdicts.specs.Verdict.{up, isHeld, wrongly, otherwise, judgedOnce, begun, plainly, saysBy, saysVerdict}
 use Rattle.table.proofs.Tests.{leb-yes}
 use Rattle.protection.specs.Run.{Run, isWrong, isOther, threeNewest, held, lastWrong, plain, saysOf}
 

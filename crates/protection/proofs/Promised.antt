@@ -17,7 +17,7 @@ use Rattle.table.proofs.Refine.{histories}
 use Rattle.table.proofs.Made.{upFrom, fresh-rep}
 use Rattle.near_field.specs.declared.Judgment.{Judgment}
 use Rattle.near_field.specs.declared.Judgment.the-variants.{Unjudged, Fits, Wrong}
-use Rattle.receiver.specs.declared.CheckState.the-variants as Says
+use Rattle.verdicts.specs.declared.CheckState.the-variants as Says
 use Rattle.receiver.specs.Calls.{Act, claim, position, judging, check, takeOut, Out, says, kind, siting, callOn}
 use Rattle.receiver.proofs.Keeps.{lawful}
 use Rattle.protection.specs.Marks.{callsOf, own, answersTo, Since, marking, since, Protected}

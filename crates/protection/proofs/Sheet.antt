@@ -20,10 +20,10 @@ use Rattle.near_field.specs.declared.Judgment.{Judgment}
 use Rattle.near_field.specs.declared.Judgment.the-variants.{Unjudged, Fits, Wrong}
 use Rattle.near_field.specs.declared.Evidence.the-variants.{Horizon}
 use Rattle.judge.specs.Judging.{judgeOf}
-use Rattle.receiver.specs.declared.CheckState.the-variants as Says
-use Rattle.receiver.specs.declared.JudgedAt.the-variants as Kept
-use Rattle.receiver.specs.Calls.{Act, claim, position, judging, check, takeOut, Out, generationIs, judgmentIs, freed, done, kind, siting, tooSoon}
-use Rattle.receiver.specs.Verdict.{wrongly, otherwise, saysVerdict}
+use Rattle.verdicts.specs.declared.CheckState.the-variants as Says
+use Rattle.verdicts.specs.declared.JudgedAt.the-variants as Kept
+use Rattle.receiver.specs.Calls.{Act, claim, position, judging, check, takeOut, Out, generationIs, judgmentIs, freed, done, kind, siting}
+use Rattle.verdicts.specs.Verdict.{wrongly, otherwise, saysVerdict, tooSoon}
 use Rattle.protection.specs.Marks.{callsOf, answersTo, Protected}
 use Rattle.protection.specs.Run.{held, saysOf}
 use Rattle.protection.specs.Card.{cardAnswers}

@@ -6,11 +6,12 @@ use mathlib.Core.List.{List, [], _∷_}
 use Rattle.table.specs.Machine.{Key, Outcome, refuse, accept, Answer, refused, said, Step}
 use Rattle.table.specs.Watch.{Body}
 use Rattle.near_field.specs.declared.Judgment.{Judgment}
-use Rattle.receiver.specs.declared.Heard.{Heard}
-use Rattle.receiver.specs.declared.JudgedAt.{JudgedAt}
-use Rattle.receiver.specs.declared.JudgedAt.the-variants as Kept
-use Rattle.receiver.specs.Heard.{emptyCells, unheard, Moved, moved, stayed, claimed, positioned}
-use Rattle.receiver.specs.Calls.{Act, claim, position, judging, check, takeOut, Out, generationIs, judgmentIs, says, freed, done, judgingOf, tooSoon}
+use Rattle.heard.specs.declared.Heard.{Heard}
+use Rattle.verdicts.specs.declared.JudgedAt.{JudgedAt}
+use Rattle.verdicts.specs.declared.JudgedAt.the-variants as Kept
+use Rattle.heard.specs.Heard.{emptyCells, unheard, Moved, moved, stayed, claimed, positioned}
+use Rattle.receiver.specs.Calls.{Act, claim, position, judging, check, takeOut, Out, generationIs, judgmentIs, says, freed, done, judgingOf}
+use Rattle.verdicts.specs.Verdict.{tooSoon}
 use Rattle.protection.specs.Run.{Run, saysOf}
 
 -- Filled, it holds cells, a run of judgments, a note of a move or none, and a row's fields but key, links and verdict. A blank card is `none`.

@@ -9,7 +9,7 @@ use Rattle.table.specs.Machine.{Key, Call, said, Event, history, after}
 use Rattle.table.specs.Rows.{Watch}
 use Rattle.table.specs.Watch.{freshWatch, watchStep}
 use Rattle.receiver.specs.declared.Part.{Part}
-use Rattle.receiver.specs.declared.CheckState.the-variants as Says
+use Rattle.verdicts.specs.declared.CheckState.the-variants as Says
 use Rattle.receiver.specs.Calls.{Act, claim, position, judging, check, takeOut, Out, says, kind, siting, callOn}
 use Rattle.protection.specs.Marks.{callsOf, own, answersTo, Protected}
 use Rattle.protection.specs.Run.{HeldWrong, lastWrong}

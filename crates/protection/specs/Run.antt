@@ -5,8 +5,8 @@ use mathlib.Core.Bool.{Bool, true, false, not, cond, _&&_, _||_}
 use mathlib.Core.List.{List, [], _∷_, _++_}
 use Rattle.near_field.specs.declared.Judgment.{Judgment}
 use Rattle.near_field.specs.declared.Judgment.the-variants.{Unjudged, Fits, Wrong}
-use Rattle.receiver.specs.declared.CheckState.{CheckState}
-use Rattle.receiver.specs.declared.CheckState.the-variants as Says
+use Rattle.verdicts.specs.declared.CheckState.{CheckState}
+use Rattle.verdicts.specs.declared.CheckState.the-variants as Says
 
 -- A run of judgments, THE NEWEST FIRST.
 abbrev pub Run : Type 0

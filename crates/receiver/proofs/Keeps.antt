@@ -22,19 +22,19 @@ use Rattle.cells.specs.Cells.{emptyWord, addedWord, bucketOf, aircraftBit}
 use Rattle.near_field.specs.declared.Judgment.{Judgment}
 use Rattle.near_field.specs.declared.Judgment.the-variants.{Unjudged, Fits, Wrong}
 use Rattle.judge.proofs.Distances.{judge-distance}
-use Rattle.receiver.specs.declared.WrongBy.{WrongBy}
-use Rattle.receiver.specs.declared.WrongBy.the-variants.{Km, Nothing}
-use Rattle.receiver.specs.declared.Verdict.{Verdict}
-use Rattle.receiver.specs.declared.Judged.{Judged}
-use Rattle.receiver.specs.declared.Judged.the-variants.{With, Never}
-use Rattle.receiver.specs.declared.JudgedAt.{JudgedAt}
-use Rattle.receiver.specs.declared.JudgedAt.the-variants as Kept
-use Rattle.receiver.specs.declared.Heard.{Heard}
-use Rattle.receiver.specs.declared.Position.{Position}
+use Rattle.verdicts.specs.declared.WrongBy.{WrongBy}
+use Rattle.verdicts.specs.declared.WrongBy.the-variants.{Km, Nothing}
+use Rattle.verdicts.specs.declared.Verdict.{Verdict}
+use Rattle.verdicts.specs.declared.Judged.{Judged}
+use Rattle.verdicts.specs.declared.Judged.the-variants.{With, Never}
+use Rattle.verdicts.specs.declared.JudgedAt.{JudgedAt}
+use Rattle.verdicts.specs.declared.JudgedAt.the-variants as Kept
+use Rattle.heard.specs.declared.Heard.{Heard}
+use Rattle.heard.specs.declared.Position.{Position}
 use Rattle.receiver.specs.declared.Part.{Part}
-use Rattle.receiver.specs.Verdict.{up, isHeld, wrongly, otherwise, judgedOnce, goesOn, judgedNext, stepOf5, byFits, verdictFits}
-use Rattle.receiver.specs.Heard.{half, width, emptyCells, Moved, moved, stayed, claimedSite, claimedNone, claimed, epochOf, isEven, heldId, withId, notOlder, holdsId, startOf, emptied, countedAt, countedIn, onClaimed, positioned, siteFits}
-use Rattle.receiver.specs.Calls.{Act, claim, position, judging, check, takeOut, Out, endedBy, claimDone, positionDone, judgingOf, tooSoon, judgingDone, checkDone, rowAct, siting}
+use Rattle.verdicts.specs.Verdict.{up, isHeld, wrongly, otherwise, judgedOnce, goesOn, judgedNext, stepOf5, byFits, verdictFits, tooSoon}
+use Rattle.heard.specs.Heard.{half, width, emptyCells, Moved, moved, stayed, claimedSite, claimedNone, claimed, epochOf, isEven, heldId, withId, notOlder, holdsId, startOf, emptied, countedAt, countedIn, onClaimed, positioned, siteFits}
+use Rattle.receiver.specs.Calls.{Act, claim, position, judging, check, takeOut, Out, endedBy, claimDone, positionDone, judgingOf, judgingDone, checkDone, rowAct, siting}
 
 -- DISTANCES
 abbrev judgmentFits : Judgment → Bool

@@ -1,3 +1,1 @@
 pub mod Keeps
-pub mod RunLaws
-pub mod SiteLaws

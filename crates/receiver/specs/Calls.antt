@@ -1,25 +1,23 @@
 -- The seven calls of the siting watch (01, 'Seven calls, seven questions'; 02, Item 3): what each with a key does to its row's part and cells, and the
 -- calls on any lent watch. Definitions only. A refusal has this paper's number; an accepted call's answer is `said` with the key pushed out or none.
-use Prim.Native.Nat.{ℕ, _+_}
-use mathlib.Core.Bool.{Bool, false, cond, _&&_}
+use Prim.Native.Nat.{ℕ}
+use mathlib.Core.Bool.{cond, _&&_}
 use mathlib.Core.List.{List}
-use lib.Dec.{ltb}
 use Rattle.table.specs.Machine.{Key, Kind, enters, uses, looks, leaves, Outcome, refuse, accept, Step}
 use Rattle.table.specs.Rows.{Watch}
 use Rattle.table.specs.Watch.{Body, Rowed, freshStep, watchStep, dropStep}
 use Rattle.sites.specs.declared.Claimed.{Claimed}
 use Rattle.near_field.specs.declared.Judgment.{Judgment}
 use Rattle.judge.specs.Judging.{judgeOf}
-use Rattle.receiver.specs.declared.Heard.{Heard}
-use Rattle.receiver.specs.declared.Position.{Position}
-use Rattle.receiver.specs.declared.Judged.{Judged}
-use Rattle.receiver.specs.declared.Judged.the-variants.{With, Never}
-use Rattle.receiver.specs.declared.JudgedAt.{JudgedAt}
-use Rattle.receiver.specs.declared.JudgedAt.the-variants as Kept
-use Rattle.receiver.specs.declared.CheckState.{CheckState}
+use Rattle.heard.specs.declared.Heard.{Heard}
+use Rattle.heard.specs.declared.Position.{Position}
+use Rattle.verdicts.specs.declared.Judged.{Judged}
+use Rattle.verdicts.specs.declared.Judged.the-variants.{With, Never}
+use Rattle.verdicts.specs.declared.JudgedAt.the-variants as Kept
+use Rattle.verdicts.specs.declared.CheckState.{CheckState}
 use Rattle.receiver.specs.declared.Part.{Part}
-use Rattle.receiver.specs.Verdict.{judgedNext, runEnded, saysVerdict, verdictFits}
-use Rattle.receiver.specs.Heard.{width, emptyCells, unheard, Moved, moved, stayed, claimed, positioned, siteFits}
+use Rattle.verdicts.specs.Verdict.{judgedNext, tooSoon, runEnded, saysVerdict, verdictFits}
+use Rattle.heard.specs.Heard.{width, emptyCells, unheard, Moved, moved, stayed, claimed, positioned, siteFits}
 
 -- the calls with a key, without it
 pub data Act : Type 0 where
@@ -69,11 +67,6 @@ judgingOf h l now aircraft = judgeOf (h .site) (h .even) (h .odd) l now aircraft
 -- (02, Item 3) The row keeps the now_ms of its last accepted judging.
 abbrev pub judgedPart : Part → ℕ → Judgment → Part
 judgedPart p now j = record { heard = p .heard; verdict = judgedNext (p .verdict) j; «judged_ms» = Kept.At now }
-
--- A judging earlier than that plus 1,800,000 ms is turned down, a clock gone back included. Where none is kept, no judging is too soon.
-abbrev pub tooSoon : JudgedAt → ℕ → Bool
-tooSoon (Kept.At ms) now = ltb now (ms + 1800000)
-tooSoon Kept.Never now = false
 
 -- Refused: 9 when too soon, asked after question 3.
 abbrev pub judgingDone : Body Part → ℕ → Judgment → Outcome (Body Part) Out

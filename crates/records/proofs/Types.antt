@@ -6,16 +6,16 @@ use Rattle.receiver.proofs.Part as Part
 use Rattle.receiver.proofs.Part.Laws as Part′
 use Rattle.rows.proofs.Row as Row
 use Rattle.rows.proofs.Row.Laws as Row′
-use Rattle.rows.proofs.Cursor as Cursor
-use Rattle.rows.proofs.Cursor.Laws as Cursor′
-use Rattle.rows.proofs.Ends as Ends
-use Rattle.rows.proofs.Ends.Laws as Ends′
-use Rattle.rows.proofs.Key as Key
-use Rattle.rows.proofs.Key.Laws as Key′
+use Rattle.scans.proofs.Cursor as Cursor
+use Rattle.scans.proofs.Cursor.Laws as Cursor′
+use Rattle.scans.proofs.Ends as Ends
+use Rattle.scans.proofs.Ends.Laws as Ends′
+use Rattle.scans.proofs.Key as Key
+use Rattle.scans.proofs.Key.Laws as Key′
 use Rattle.rows.proofs.Seat as Seat
 use Rattle.rows.proofs.Seat.Laws as Seat′
-use Rattle.rows.proofs.Look as Look
-use Rattle.rows.proofs.Look.Laws as Look′
+use Rattle.scans.proofs.Look as Look
+use Rattle.scans.proofs.Look.Laws as Look′
 
 abbrev pub index : Datum
 index = uint w64

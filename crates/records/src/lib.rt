@@ -6,15 +6,17 @@ ghost use Prim.Native.Nat.{_<_};
 ghost use lib.Dec.{leb};
 ghost use lib.ListN.{length, set, getD};
 ghost use Rattle.rows.specs.Read.{Looked};
-ghost use Rattle.rows.specs.Links.{blank, nexted, preved, unlinkedRows, unlinkedEnds, linkedRows, linkedEnds, releasedRows, releasedEnds, touchedRows, touchedEnds, markedRows, markedEnds, roomRows, roomEnds, takenRows, takenEnds, enteredRows, enteredEnds, seatOf, seatedRows, freshFrom};
-ghost use Rattle.rows.specs.Search.{scanned, atOf};
+ghost use Rattle.rows.specs.Links.{blank, nexted, preved, unlinkedRows, unlinkedEnds, linkedRows, releasedRows, releasedEnds, touchedRows, touchedEnds, markedRows, markedEnds, roomRows, roomEnds, takenRows, takenEnds, enteredRows, enteredEnds, seatOf, seatedRows, freshFrom};
+ghost use Rattle.scans.specs.Ends.{linkedEnds};
+ghost use Rattle.rows.specs.Search.{scanned};
+ghost use Rattle.scans.specs.Scan.{atOf};
 use receiver::Part;
-use rows::Cursor;
-use rows::Ends;
-use rows::Key;
-use rows::Look;
 use rows::Row;
 use rows::Seat;
+use scans::Cursor;
+use scans::Ends;
+use scans::Key;
+use scans::Look;
 
 // ---- numbers
 
@@ -95,18 +97,18 @@ fn unlink(rows: &mut [Row], e: Ends, i: u32) -> Ends
     let n = rows::next_of(row);
     set_next(rows, p, n);
     set_prev(rows, n, p);
-    rows::out_ends(e, p, n)
+    scans::out_ends(e, p, n)
 }
 
 // Puts row i last in the used chain: the most recently used.
 fn link_last(rows: &mut [Row], e: Ends, i: u32) -> Ends
     ensures { λ r. ⌜ (r ≡ linkedEnds e i) × (now (rows .exit) ≡ linkedRows (now (rows .entry)) e i) ⌝ }
 {
-    let t = rows::tail_of(e);
+    let t = scans::tail_of(e);
     let row = get(rows, i);
-    put(rows, i, rows::with_links(row, t, rows::no_row()));
+    put(rows, i, rows::with_links(row, t, scans::no_row()));
     set_next(rows, t, i);
-    rows::linked_ends(e, i)
+    scans::linked_ends(e, i)
 }
 
 // Takes row i out of the used chain and frees it: it becomes as fresh, and heads the free chain.
@@ -114,8 +116,8 @@ pub fn release(rows: &mut [Row], e: Ends, i: u32) -> Ends
     ensures { λ r. ⌜ (r ≡ releasedEnds (now (rows .entry)) e i) × (now (rows .exit) ≡ releasedRows (now (rows .entry)) e i) ⌝ }
 {
     let d = unlink(rows, e, i);
-    put(rows, i, rows::unmade_row(rows::free_of(e)));
-    rows::with_free(d, i)
+    put(rows, i, rows::unmade_row(scans::free_of(e)));
+    scans::with_free(d, i)
 }
 
 // Marks row i: it is freed after every row marked longer ago.
@@ -139,22 +141,22 @@ pub fn mark(rows: &mut [Row], e: Ends, i: u32, part: Part) -> Ends
 fn make_room(rows: &mut [Row], e: Ends) -> Ends
     ensures { λ r. ⌜ (r ≡ roomEnds (now (rows .entry)) e) × (now (rows .exit) ≡ roomRows (now (rows .entry)) e) ⌝ }
 {
-    let spare = rows::has_free(e);
+    let spare = scans::has_free(e);
     if spare {
-        return rows::same_ends(e);
+        return scans::same_ends(e);
     }
-    release(rows, e, rows::head_of(e))
+    release(rows, e, scans::head_of(e))
 }
 
 // The first free row is taken for the key, and is the most recently used.
 fn take_free(rows: &mut [Row], e: Ends, key: Key, part: Part) -> Ends
     ensures { λ r. ⌜ (r ≡ takenEnds (now (rows .entry)) e) × (now (rows .exit) ≡ takenRows (now (rows .entry)) e key part) ⌝ }
 {
-    let i = rows::free_of(e);
+    let i = scans::free_of(e);
     let old = get(rows, i);
     put(rows, i, rows::made_row(old, key, part));
     let n = rows::next_of(old);
-    link_last(rows, rows::with_free(e, n), i)
+    link_last(rows, scans::with_free(e, n), i)
 }
 
 // A row is made for the key, where no row is free in place of the least recently used.
@@ -169,7 +171,7 @@ fn enter(rows: &mut [Row], e: Ends, key: Key, part: Part) -> Ends
 pub fn oldest(rows: &[Row], e: Ends) -> Row
     ensures { λ r. ⌜ r ≡ getD (now (rows .entry)) (e .head) blank ⌝ }
 {
-    get(rows, rows::head_of(e))
+    get(rows, scans::head_of(e))
 }
 
 // ---- a claim's row
@@ -178,13 +180,13 @@ pub fn oldest(rows: &[Row], e: Ends) -> Row
 pub fn insert_active(rows: &mut [Row], e: Ends, l: Look, key: Key, part: Part) -> Seat
     ensures { λ r. ⌜ (r ≡ seatOf (now (rows .entry)) e l part) × (now (rows .exit) ≡ seatedRows (now (rows .entry)) e l key part) ⌝ }
 {
-    let new = rows::is_no(l);
+    let new = scans::is_no(l);
     if new {
         let old = oldest(rows, e);
         let d = enter(rows, e, key, part);
         return rows::made_seat(e, old, d);
     }
-    let i = rows::at_of(l);
+    let i = scans::at_of(l);
     let f = mark(rows, e, i, part);
     rows::kept_seat(f, i)
 }
@@ -201,7 +203,7 @@ fn scan(rows: &[Row], s: Cursor) -> Cursor
     ensures { λ r. ⌜ r ≡ scanned (now (rows .entry)) s ⌝ }
 {
     let mut c = s;
-    while rows::more(c, rows.len()) {
+    while scans::more(c, rows.len()) {
         let i = place(c);
         let row = row_at(rows, i);
         c = rows::step(c, row);
@@ -214,20 +216,20 @@ pub fn look_up(rows: &[Row], m: usize, e: Ends, key: Key) -> Look
     ensures { λ r. ⌜ Looked (now (rows .entry)) m e key r ⌝ }
 {
     let fit = rows::sizes_fit(rows.len(), m);
-    let bad = rows::negated(fit);
+    let bad = scans::negated(fit);
     if bad {
-        return rows::no_one();
+        return scans::no_one();
     }
-    let used = scan(rows, rows::used_start(rows.len(), e, key));
-    let free = scan(rows, rows::free_start(rows.len(), e, key));
-    rows::look_of(rows.len(), e, used, free)
+    let used = scan(rows, scans::used_start(rows.len(), e, key));
+    let free = scan(rows, scans::free_start(rows.len(), e, key));
+    scans::look_of(rows.len(), e, used, free)
 }
 
 // The row that was found; the unmade one where none was.
 pub fn found(rows: &[Row], l: Look) -> Row
     ensures { λ r. ⌜ r ≡ getD (now (rows .entry)) (atOf l) blank ⌝ }
 {
-    get(rows, rows::at_of(l))
+    get(rows, scans::at_of(l))
 }
 
 // ---- fresh rows

@@ -8,7 +8,7 @@ use Rattle.table.specs.Machine as M
 use Rattle.near_field.specs.declared.Judgment.{Judgment}
 use Rattle.near_field.specs.declared.Judgment.the-variants as Judgments
 use Rattle.near_field.specs.declared.Evidence.{Evidence}
-use Rattle.flat.specs.Words.{keyWords, wordOf, eight}
+use Rattle.packing.specs.Words.{keyWords, wordOf, eight}
 use Rattle.moves.specs.declared.Word.{Word}
 use Rattle.moves.specs.declared.Word.the-variants as Wd
 use Rattle.moves.specs.declared.Answer.{Answer}

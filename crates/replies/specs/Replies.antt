@@ -21,12 +21,12 @@ use Rattle.near_field.specs.declared.Judgment.the-variants as Judgments
 use Rattle.near_field.specs.declared.Evidence.{Evidence}
 use Rattle.near_field.specs.declared.Evidence.the-variants as Evidences
 use Rattle.receiver.specs.declared.Part.{Part}
-use Rattle.receiver.specs.declared.CheckState.{CheckState}
-use Rattle.receiver.specs.declared.CheckState.the-variants as States
+use Rattle.verdicts.specs.declared.CheckState.{CheckState}
+use Rattle.verdicts.specs.declared.CheckState.the-variants as States
 use Rattle.receiver.specs.Calls.{Out, generationIs, judgmentIs, says, freed, done}
 use Rattle.rows.specs.Read.{watchIs}
-use Rattle.flat.specs.Words.{keyWords}
 use Rattle.flat.specs.Table.{rowsOf, Left}
+use Rattle.packing.specs.Words.{keyWords}
 
 -- ARGUMENTS: a tag of 0 is none
 abbrev pub altitudeBy : ℕ → ℤ → Altitude

@@ -3,19 +3,19 @@
 ghost use mathlib.Core.Path.{_≡_};
 ghost use mathlib.Core.Bool.{cond};
 ghost use mathlib.Core.Option.{none, some};
-ghost use Rattle.flat.specs.Words.{keyOf};
 ghost use Rattle.moves.specs.Answers.{answerIs};
 ghost use Rattle.replies.specs.Replies.{altitudeBy, siteBy, feetBy, evidenceWord, plain, keyed, judgmentWords, stateWords, generationWords, answerWords};
+ghost use Rattle.packing.specs.Words.{keyOf};
 use cells::Height;
 use moves::Answer;
 use moves::Word;
 use near_field::Evidence;
 use near_field::Judgment;
-use receiver::CheckState;
-use rows::Key;
+use scans::Key;
 use sites::Altitude;
 use sites::Claimed;
 use sites::Site;
+use verdicts::CheckState;
 
 // ---- arguments
 
@@ -56,7 +56,7 @@ pub fn feet_by(tag: u8, feet: i32) -> Height
 pub fn key_by(key: &[u64; 4]) -> Key
     ensures { λ r. ⌜ r .bytes ≡ keyOf (now (key .entry)) ⌝ }
 {
-    let k = flat::key_at(key);
+    let k = packing::key_at(key);
     Key { bytes: k }
 }
 
@@ -71,10 +71,10 @@ fn put(answer: &mut [u64; 9], what: u64, value: u64, off: u64, by: u64)
 fn put_keyed(answer: &mut [u64; 9], what: u64, value: u64, pushed: u64, key: [u8; 32])
     ensures { λ _. ⌜ now (answer .exit) ≡ keyed what value pushed key ⌝ }
 {
-    let a = flat::key_word(key, 0);
-    let b = flat::key_word(key, 8);
-    let c = flat::key_word(key, 16);
-    let d = flat::key_word(key, 24);
+    let a = packing::key_word(key, 0);
+    let b = packing::key_word(key, 8);
+    let c = packing::key_word(key, 16);
+    let d = packing::key_word(key, 24);
     *answer = [what, value, 0, 0, pushed, a, b, c, d];
 }
 

@@ -17,13 +17,14 @@ use Rattle.table.proofs.Tests.{byBool}
 use Rattle.table.proofs.Linked.{none-next, none-prev}
 use Rattle.table.proofs.Safe.{map-set}
 use Rattle.receiver.specs.declared.Part.{Part}
-use Rattle.receiver.specs.Heard.{width, emptyCells}
+use Rattle.heard.specs.Heard.{width, emptyCells}
 use Rattle.receiver.specs.Calls.{unmadePart}
 use Rattle.rows.specs.declared.Row.{Row}
-use Rattle.rows.specs.declared.Ends.{Ends}
-use Rattle.rows.specs.declared.Key.{Key}
 use Rattle.rows.specs.Read.{form, rowIs, endsOf, watchOf}
-use Rattle.rows.specs.Links.{blank, unmade, withNext, withPrev, withLinks, nexted, preved, before, after, unlinkedRows, unlinkedEnds, linkedRows, linkedEnds, withFree, releasedRows, releasedEnds, touchedRows, touchedEnds, roomRows, roomEnds, takenRows, takenEnds, madeRow}
+use Rattle.rows.specs.Links.{blank, unmade, withNext, withPrev, withLinks, nexted, preved, before, after, unlinkedRows, unlinkedEnds, linkedRows, releasedRows, releasedEnds, touchedRows, touchedEnds, roomRows, roomEnds, takenRows, takenEnds, madeRow}
+use Rattle.scans.specs.declared.Ends.{Ends}
+use Rattle.scans.specs.declared.Key.{Key}
+use Rattle.scans.specs.Ends.{linkedEnds, withFree}
 
 abbrev pub rowsIs : List Row → List (W.Row Part)
 rowsIs xs = map rowIs xs

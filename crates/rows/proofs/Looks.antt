@@ -23,18 +23,19 @@ use Rattle.table.proofs.Chains.{linked-freed}
 use Rattle.table.proofs.Question2.{Question2, question-two, most-none, sound-rows, rows-sound}
 use Rattle.table.proofs.Walk.{walk-is-question}
 use Rattle.receiver.specs.declared.Part.{Part}
-use Rattle.receiver.specs.Heard.{width}
+use Rattle.heard.specs.Heard.{width}
 use Rattle.receiver.specs.Calls.{unmadePart}
 use Rattle.rows.specs.declared.Row.{Row}
-use Rattle.rows.specs.declared.Ends.{Ends}
-use Rattle.rows.specs.declared.Key.{Key}
-use Rattle.rows.specs.declared.Cursor.{Cursor}
-use Rattle.rows.specs.declared.Look.{Look}
-use Rattle.rows.specs.declared.Look.the-variants as L
 use Rattle.rows.specs.Read.{form, fits, rowIs, watchOf, foundIs, lookedIn, Looked}
 use Rattle.rows.specs.Links.{blank}
-use Rattle.rows.specs.Search.{scan-for, scanned, startOf, backFits, firstFound, cameThrough, chainsOf, foundAt, lookOf, sizesOf}
+use Rattle.rows.specs.Search.{scan-for, scanned, sizesOf}
 use Rattle.rows.proofs.Chains.{rows-long, row-is}
+use Rattle.scans.specs.declared.Ends.{Ends}
+use Rattle.scans.specs.declared.Key.{Key}
+use Rattle.scans.specs.declared.Cursor.{Cursor}
+use Rattle.scans.specs.declared.Look.{Look}
+use Rattle.scans.specs.declared.Look.the-variants as L
+use Rattle.scans.specs.Scan.{startOf, backFits, firstFound, cameThrough, chainsOf, foundAt, lookOf}
 
 abbrev state : ℕ → ℕ → ℕ → Bool → Bool → Bool → ℕ → List ℕ → Cursor
 state at p l b f s v k = record { at = at; prev = p; left = l; back = b; fits = f; sound = s; found = v; key = k }

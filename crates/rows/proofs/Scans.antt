@@ -11,9 +11,10 @@ use lib.ListN.{length, getD}
 use borrow.Author.Tests.{ltb-true, eqb-false}
 use Rattle.table.proofs.Tests.{clash}
 use Rattle.rows.specs.declared.Row.{Row}
-use Rattle.rows.specs.declared.Cursor.{Cursor}
+use Rattle.scans.specs.declared.Cursor.{Cursor}
 use Rattle.rows.specs.Links.{blank}
-use Rattle.rows.specs.Search.{moreOf, stepOf, scan-for, scanned}
+use Rattle.rows.specs.Search.{stepOf, scan-for, scanned}
+use Rattle.scans.specs.Scan.{moreOf}
 
 pub picks : (f e l : Bool) → cond f (cond e false l) false ≡ true → (f ≡ true) × (e ≡ false) × (l ≡ true)
 picks true true l p = clash p refl

@@ -9,13 +9,13 @@ use borrow.Author.Tests.{not-true, not-false}
 use lib.Seq.{set-out}
 use Rattle.table.specs.Rows.{NONE}
 use Rattle.rows.specs.declared.Row.{Row}
-use Rattle.rows.specs.declared.Ends.{Ends}
+use Rattle.scans.specs.declared.Ends.{Ends}
 use Rattle.rows.specs.Links.{blank, roomRows, roomEnds, releasedRows, releasedEnds, markedRows, markedEnds, enteredRows, enteredEnds, keptSeat, madeSeat, seatOf, seatedRows}
-use Rattle.rows.specs.Search.{isNo, atOf}
-use Rattle.rows.specs.declared.Key.{Key}
+use Rattle.scans.specs.Scan.{isNo, atOf}
+use Rattle.scans.specs.declared.Key.{Key}
 use Rattle.rows.specs.declared.Seat.{Seat}
-use Rattle.rows.specs.declared.Look.{Look}
-use Rattle.rows.specs.declared.Look.the-variants as L
+use Rattle.scans.specs.declared.Look.{Look}
+use Rattle.scans.specs.declared.Look.the-variants as L
 use Rattle.receiver.specs.declared.Part.{Part}
 use Rattle.table.proofs.Tests.{clash}
 

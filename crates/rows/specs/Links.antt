@@ -8,12 +8,13 @@ use lib.ListN.{getD, set}
 use Rattle.table.specs.Rows.{NONE, zeroKey}
 use Rattle.receiver.specs.declared.Part.{Part}
 use Rattle.receiver.specs.Calls.{unmadePart}
-use Rattle.rows.specs.declared.Key.{Key}
+use Rattle.scans.specs.declared.Key.{Key}
 use Rattle.rows.specs.declared.Row.{Row}
-use Rattle.rows.specs.declared.Ends.{Ends}
+use Rattle.scans.specs.declared.Ends.{Ends}
 use Rattle.rows.specs.declared.Seat.{Seat}
-use Rattle.rows.specs.declared.Look.{Look}
-use Rattle.rows.specs.declared.Look.the-variants as L
+use Rattle.scans.specs.Ends.{outEnds, linkedEnds, withFree}
+use Rattle.scans.specs.declared.Look.{Look}
+use Rattle.scans.specs.declared.Look.the-variants as L
 
 -- ROWS BY VALUE
 abbrev pub unmade : ℕ → Row
@@ -53,20 +54,11 @@ after rows i = getD rows i blank .next
 abbrev pub unlinkedRows : List Row → ℕ → List Row
 unlinkedRows rows i = preved (nexted rows (before rows i) (after rows i)) (after rows i) (before rows i)
 
-abbrev pub outEnds : Ends → ℕ → ℕ → Ends
-outEnds e p n = record { head = cond (eqb p NONE) n (e .head); tail = cond (eqb n NONE) p (e .tail); free = e .free }
-
 abbrev pub unlinkedEnds : List Row → Ends → ℕ → Ends
 unlinkedEnds rows e i = outEnds e (before rows i) (after rows i)
 
 abbrev pub linkedRows : List Row → Ends → ℕ → List Row
 linkedRows rows e i = nexted (set rows i (withLinks (getD rows i blank) (e .tail) NONE)) (e .tail) i
-
-abbrev pub linkedEnds : Ends → ℕ → Ends
-linkedEnds e i = record { head = cond (eqb (e .tail) NONE) i (e .head); tail = i; free = e .free }
-
-abbrev pub withFree : Ends → ℕ → Ends
-withFree e n = record { head = e .head; tail = e .tail; free = n }
 
 abbrev pub releasedRows : List Row → Ends → ℕ → List Row
 releasedRows rows e i = set (unlinkedRows rows i) i (unmade (e .free))
@@ -132,6 +124,3 @@ freshOf n i = unmade (cond (ltb i 4095) (cond (eqb (i + 1) n) NONE (i + 1)) NONE
 abbrev pub freshFrom : ℕ → ℕ → ℕ → List Row
 freshFrom n i zero = []
 freshFrom n i (suc k) = freshOf n i ∷ freshFrom n (suc i) k
-
-abbrev pub freshEnds : Ends
-freshEnds = record { head = NONE; tail = NONE; free = 0 }

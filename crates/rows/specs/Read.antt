@@ -11,11 +11,11 @@ use Rattle.table.specs.Rows.{Watch, Form}
 use Rattle.table.specs.Questions.{question1, question2, findRow}
 use Rattle.receiver.specs.declared.Part.{Part}
 use Rattle.receiver.specs.Calls.{siting, unmadePart}
-use Rattle.rows.specs.declared.Key.{Key}
+use Rattle.scans.specs.declared.Key.{Key}
 use Rattle.rows.specs.declared.Row.{Row}
-use Rattle.rows.specs.declared.Ends.{Ends}
-use Rattle.rows.specs.declared.Look.{Look}
-use Rattle.rows.specs.declared.Look.the-variants as L
+use Rattle.scans.specs.declared.Ends.{Ends}
+use Rattle.scans.specs.declared.Look.{Look}
+use Rattle.scans.specs.declared.Look.the-variants as L
 
 -- a row of the siting watch
 abbrev pub form : Form Part

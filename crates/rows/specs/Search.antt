@@ -1,34 +1,21 @@
--- The scan that answers questions 1, 2 and 3 in one pass: what its steps come to. Definitions only; proofs/Looks shows that it tells `lookedIn`.
-use Prim.Native.Nat.{ℕ, zero, suc, _+_, _-_, _*_}
-use mathlib.Core.Bool.{Bool, true, false, cond, not, _&&_, _||_}
+-- The scan that answers questions 1, 2 and 3 in one pass: what a step over a row comes to. Definitions only; proofs/Looks shows that it tells `lookedIn`.
+use Prim.Native.Nat.{ℕ, zero, suc, _-_, _*_}
+use mathlib.Core.Bool.{Bool, cond, _&&_}
 use mathlib.Core.List.{List}
-use lib.Dec.{leb, ltb, eqb}
+use lib.Dec.{leb, eqb}
 use lib.ListN.{length, getD}
 use Rattle.table.specs.Machine.{same}
-use Rattle.table.specs.Rows.{NONE}
 use Rattle.table.specs.Questions.{most}
-use Rattle.receiver.specs.Heard.{width}
+use Rattle.heard.specs.Heard.{width}
 use Rattle.rows.specs.Read.{fits}
 use Rattle.rows.specs.Links.{blank}
-use Rattle.rows.specs.declared.Key.{Key}
 use Rattle.rows.specs.declared.Row.{Row}
-use Rattle.rows.specs.declared.Cursor.{Cursor}
-use Rattle.rows.specs.declared.Look.{Look}
-use Rattle.rows.specs.declared.Look.the-variants as L
+use Rattle.scans.specs.Scan.{backFits, firstFound, moreOf}
+use Rattle.scans.specs.declared.Cursor.{Cursor}
 
 -- question 1
 abbrev pub sizesOf : ℕ → ℕ → Bool
 sizesOf n m = leb 1 n && (leb n most && eqb m (width * n))
-
--- A STEP ALONG A CHAIN
-abbrev pub backFits : Bool → ℕ → ℕ → Bool
-backFits b x p = cond b (eqb x p) true
-
-abbrev pub firstFound : ℕ → ℕ → Bool → ℕ
-firstFound f at t = cond (eqb f NONE) (cond t at NONE) f
-
-abbrev pub moreOf : Cursor → ℕ → Bool
-moreOf s n = cond (s .fits) (cond (eqb (s .left) 0) false (ltb (s .at) n)) false
 
 abbrev pub stepOf : Cursor → Row → Cursor
 stepOf s r = cond (eqb (s .left) 0) s (record {
@@ -49,41 +36,3 @@ scan-for (suc k) rows s = cond (moreOf s (length rows)) (scan-for k rows (stepOf
 
 unfoldable pub scanned : List Row → Cursor → Cursor
 scanned rows s = scan-for (s .left) rows s
-
-abbrev pub startOf : ℕ → ℕ → Bool → Key → Cursor
-startOf n at b k = record { at = at; prev = NONE; left = n; back = b; fits = true; sound = true; found = NONE; key = k .bytes }
-
--- a chain's scan has come to its end
-abbrev pub cameThrough : Cursor → Bool
-cameThrough s = s .fits && eqb (s .at) NONE
-
--- both chains end, are together all n rows, the first ends in the tail and not where the second does, and every part is sound
-abbrev pub chainsOf : ℕ → ℕ → Cursor → Cursor → Bool
-chainsOf n tail a b =
-    (cameThrough a && cameThrough b)
-    && ((eqb (n - a .left + (n - b .left)) n && (eqb (a .prev) tail && (eqb (n - a .left) 0 || (eqb (n - b .left) 0 || not (eqb (a .prev) (b .prev))))))
-    && (a .sound && b .sound))
-
-abbrev pub foundAt : ℕ → Look
-foundAt f = cond (eqb f NONE) (L.No 3) (L.At f)
-
-abbrev pub lookOf : ℕ → ℕ → Cursor → Cursor → Look
-lookOf n tail a b = cond (chainsOf n tail a b) (foundAt (a .found)) (L.No 2)
-
--- WHAT A LOOK SAYS
-abbrev pub isNo : Look → Bool
-isNo (L.No n) = true
-isNo (L.At i) = false
-
--- no to question 1 or 2
-abbrev pub isUnfit : Look → Bool
-isUnfit (L.No n) = not (eqb n 3)
-isUnfit (L.At i) = false
-
-abbrev pub atOf : Look → ℕ
-atOf (L.No n) = NONE
-atOf (L.At i) = i
-
-abbrev pub numberOf : Look → ℕ
-numberOf (L.No n) = n
-numberOf (L.At i) = 0

@@ -10,8 +10,8 @@ use Rattle.sites.specs.Sites.{held, samePlace, placing}
 use Rattle.sites.specs.declared.Site.{Site}
 use Rattle.grammar.specs.declared.Line.{Line}
 use Rattle.grammar.specs.declared.Line.the-variants as line
-use Rattle.session.specs.declared.Reply.{Reply}
-use Rattle.session.specs.declared.Reply.the-variants as reply
+use Rattle.answers.specs.declared.Reply.{Reply}
+use Rattle.answers.specs.declared.Reply.the-variants as reply
 use Rattle.session.specs.Replies.{siteOf, sameOf, bitOf, replyOf}
 
 -- question 4 of both sites

@@ -20,13 +20,9 @@ use Rattle.moves.specs.declared.Answer.{Answer}
 use Rattle.grammar.specs.declared.Call.{Call}
 use Rattle.grammar.specs.declared.Call.the-variants as call
 use Rattle.grammar.specs.declared.Line.{Line}
-use Rattle.grammar.specs.declared.Fault.the-variants as fault
-use Rattle.session.specs.declared.Reply.{Reply}
-use Rattle.session.specs.declared.Reply.the-variants as reply
 use Rattle.session.specs.declared.View.{View}
 use Rattle.session.specs.declared.View.the-variants as view
-use Rattle.session.specs.declared.Told.{Told}
-use Rattle.rows.specs.declared.Key.{Key}
+use Rattle.scans.specs.declared.Key.{Key}
 use Rattle.moves.specs.declared.Word.the-variants as word
 use Rattle.session.specs.Replies.{replyOf}
 use Rattle.lending.specs.declared.Size.{Size}
@@ -37,6 +33,10 @@ use Rattle.lending.specs.Digests.{digestOf}
 use Rattle.lending.specs.Lendings.{Within, lentTo, Room, noEnds, Applied}
 use Rattle.lending.proofs.Writing.{applied-within}
 use Rattle.session.specs.Watches.{callBy, Called, Stays, Opened, OpenedBy, Answers, replyFor, Written, viewOf, RanBy, Ran, plainly, sizedOf, noKey}
+use Rattle.readers.specs.declared.Fault.the-variants as fault
+use Rattle.answers.specs.declared.Reply.{Reply}
+use Rattle.answers.specs.declared.Reply.the-variants as reply
+use Rattle.answers.specs.declared.Told.{Told}
 
 pub call-by : (c m : Call) (k : M.Key) (w : Watch Part) (s : Step (Watch Part) Out) → c ≡ m → s ≡ callBy m k w → s ≡ callBy c k w
 call-by c m k w s e f = f ∙ sym (ap (λ (z : Call). callBy z k w) e)

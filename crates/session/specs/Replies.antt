@@ -10,8 +10,8 @@ use Rattle.sites.specs.declared.Site.{Site}
 use Rattle.sites.specs.declared.Altitude.the-variants.{Unknown}
 use Rattle.grammar.specs.declared.Line.{Line}
 use Rattle.grammar.specs.declared.Line.the-variants as line
-use Rattle.session.specs.declared.Reply.{Reply}
-use Rattle.session.specs.declared.Reply.the-variants as reply
+use Rattle.answers.specs.declared.Reply.{Reply}
+use Rattle.answers.specs.declared.Reply.the-variants as reply
 
 -- same LAT1 LON1 LAT2 LON2: degrees that get a no to question 4 are refused
 abbrev pub siteOf : Float → Float → Site

@@ -17,8 +17,7 @@ use Rattle.grammar.specs.declared.Call.{Call}
 use Rattle.grammar.specs.declared.Call.the-variants as call
 use Rattle.grammar.specs.declared.Line.{Line}
 use Rattle.grammar.specs.declared.Line.the-variants as line
-use Rattle.grammar.specs.declared.Fault.the-variants as fault
-use Rattle.rows.specs.declared.Key.{Key}
+use Rattle.scans.specs.declared.Key.{Key}
 use Rattle.moves.specs.declared.Word.the-variants as word
 use Rattle.lending.specs.declared.Size.{Size}
 use Rattle.lending.specs.declared.Outcome.{Outcome}
@@ -29,11 +28,12 @@ use Rattle.lending.specs.declared.Changed.{Changed}
 use Rattle.lending.specs.Digests.{digestOf}
 use Rattle.lending.specs.Lendings.{lentTo, noEnds, Applied}
 use Rattle.session.specs.Replies.{replyOf}
-use Rattle.session.specs.declared.Reply.{Reply}
-use Rattle.session.specs.declared.Reply.the-variants as reply
 use Rattle.session.specs.declared.View.{View}
 use Rattle.session.specs.declared.View.the-variants as view
-use Rattle.session.specs.declared.Told.{Told}
+use Rattle.readers.specs.declared.Fault.the-variants as fault
+use Rattle.answers.specs.declared.Reply.{Reply}
+use Rattle.answers.specs.declared.Reply.the-variants as reply
+use Rattle.answers.specs.declared.Told.{Told}
 
 -- the call that a line asks for, of the key that it names
 abbrev pub callBy : Call → M.Key → Watch Part → Step (Watch Part) Out

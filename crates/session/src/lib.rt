@@ -1,9 +1,10 @@
-// A list of calls, line by line: what a line is answered, and what it does to the watch that is lent.
+// A list of calls, line by line: what a line is answered, and what it does to the watch that is lent. An answer and its text stand in `answers`.
 mod run;
 pub mod single;
 
+use answers::Reply;
+use answers::Told;
 use grammar::Call;
-use grammar::Fault;
 use grammar::Line;
 use grammar::Said;
 use lending::Change;
@@ -11,33 +12,13 @@ use lending::Outcome;
 use lending::Size;
 use moves::Answer;
 use moves::Word;
-use rows::Key;
+use readers::Fault;
+use scans::Key;
 ghost use mathlib.Core.Path.{_≡_};
 ghost use Prim.Native.Nat.{_≤_};
 ghost use Rattle.lending.specs.Digests.{digestOf};
 ghost use Rattle.lending.specs.Lendings.{Within, lentTo, Room};
 ghost use Rattle.session.specs.Watches.{noKey, plainly, sizedOf, Opened, Answers, replyFor, Written, viewOf, Ran};
-
-pub enum Reply {
-    Nothing,
-    // The answer of a call stands beside it.
-    Answered,
-    Place(u16),
-    Same(bool),
-    Horizon(f64),
-    Bucket(u8),
-    Bit(u32),
-    No(u8),
-    Digest(u64),
-    Wrong(Fault),
-}
-
-// What a line is answered, and how large the watch is after it.
-pub struct Told {
-    pub reply: Reply,
-    pub answer: Answer,
-    pub size: Size,
-}
 
 fn no_key() -> Key
     ensures { λ r. ⌜ r ≡ noKey ⌝ }

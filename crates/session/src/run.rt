@@ -2,7 +2,7 @@
 use grammar::Call;
 use lending::Size;
 use moves::Answer;
-use rows::Key;
+use scans::Key;
 ghost use mathlib.Core.Path.{_≡_};
 ghost use Prim.Native.Nat.{_*_, _≤_};
 ghost use lib.ListN.{length};

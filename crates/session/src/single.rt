@@ -1,5 +1,5 @@
 // What the lines that need no watch are answered.
-use crate::Reply;
+use answers::Reply;
 use grammar::Line;
 use sites::Altitude;
 use sites::Site;

@@ -4,10 +4,10 @@
 ghost use mathlib.Core.Path.{_≡_};
 ghost use Rattle.receiver.specs.Calls as calls;
 ghost use Rattle.rows.specs.Read.{watchIs};
-ghost use Rattle.flat.specs.Words.{keyOf};
 ghost use Rattle.flat.specs.Table.{rowsOf};
 ghost use Rattle.replies.specs.Replies.{altitudeBy, siteBy, feetBy, Told};
-use receiver::Position;
+ghost use Rattle.packing.specs.Words.{keyOf};
+use heard::Position;
 use replies::altitude_by;
 use replies::feet_by;
 use replies::key_by;

@@ -11,8 +11,8 @@ use lib.ListN.{length, getD, set}
 use lib.Seq.{sets, set-out}
 use borrow.Author.Tests.{eq-eqb, ne-eqb}
 use Rattle.rows.specs.declared.Row.{Row}
-use Rattle.rows.specs.declared.Look.{Look}
-use Rattle.rows.specs.Search.{isUnfit, numberOf}
+use Rattle.scans.specs.declared.Look.{Look}
+use Rattle.scans.specs.Scan.{isUnfit, numberOf}
 use Rattle.turns.specs.declared.Turned.the-variants.{Refused, Named}
 use Rattle.turns.specs.Turn.{startOf, following}
 use Rattle.turns.specs.Passes.{listAfter}

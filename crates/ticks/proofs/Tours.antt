@@ -15,13 +15,13 @@ use Rattle.table.specs.Rows.{Watch, rowAt}
 use Rattle.table.proofs.Tests.{byBool, clash}
 use Rattle.receiver.specs.declared.Part.{Part}
 use Rattle.receiver.specs.Calls.{unmadePart}
-use Rattle.rows.specs.declared.Key.{Key}
+use Rattle.scans.specs.declared.Key.{Key}
 use Rattle.rows.specs.declared.Row.{Row}
-use Rattle.rows.specs.declared.Ends.{Ends}
-use Rattle.rows.specs.declared.Look.{Look}
+use Rattle.scans.specs.declared.Ends.{Ends}
+use Rattle.scans.specs.declared.Look.{Look}
 use Rattle.rows.specs.Links.{blank}
 use Rattle.rows.specs.Read.{form, rowIs, watchIs, Looked}
-use Rattle.rows.specs.Search.{isUnfit, numberOf}
+use Rattle.scans.specs.Scan.{isUnfit, numberOf}
 use Rattle.rows.proofs.Chains.{row-is}
 use Rattle.turns.specs.Turn.{startOf, following, named, keysOf, question8, turnOn, Tick}
 use Rattle.turns.specs.Passes.{markAll, countAfter, listAfter}

@@ -7,9 +7,9 @@ use lib.ListN.{length, getD, take, drop, replicate}
 use Rattle.table.specs.Rows.{Watch}
 use Rattle.receiver.specs.declared.Part.{Part}
 use Rattle.rows.specs.declared.Row.{Row}
-use Rattle.rows.specs.declared.Ends.{Ends}
-use Rattle.rows.specs.declared.Look.{Look}
-use Rattle.rows.specs.Search.{isUnfit, numberOf}
+use Rattle.scans.specs.declared.Ends.{Ends}
+use Rattle.scans.specs.declared.Look.{Look}
+use Rattle.scans.specs.Scan.{isUnfit, numberOf}
 use Rattle.rows.specs.Read.{form, endsOf, endsIs, watchIs}
 use Rattle.turns.specs.declared.Turned.{Turned}
 use Rattle.turns.specs.declared.Turned.the-variants.{Refused, Named}

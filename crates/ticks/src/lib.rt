@@ -10,9 +10,9 @@ ghost use Rattle.turns.specs.Turn.{startOf, turnOn};
 ghost use Rattle.turns.specs.Passes.{listAfter};
 ghost use Rattle.ticks.specs.Marks.{markMore, markStep, marksTo};
 ghost use Rattle.ticks.specs.Tours.{refusedTour, openTour, askedTour, steppedTo, tourStep, saidOf, Planned};
-use rows::Ends;
-use rows::Look;
 use rows::Row;
+use scans::Ends;
+use scans::Look;
 use turns::Turned;
 
 // ---- the used rows
@@ -137,9 +137,9 @@ fn open() -> Tour
 fn asked(l: Look, may: bool) -> Tour
     ensures { λ r. ⌜ r ≡ askedTour l may ⌝ }
 {
-    let unfit = rows::unfit(l);
+    let unfit = scans::unfit(l);
     if unfit {
-        return refused(rows::number_of(l));
+        return refused(scans::number_of(l));
     }
     if may {
         return open();
@@ -151,7 +151,7 @@ fn is_refused(t: Tour) -> bool
     ensures { λ r. ⌜ r ≡ not (t .fine) ⌝ }
 {
     let fine = t.fine;
-    rows::negated(fine)
+    scans::negated(fine)
 }
 
 fn begun(n: usize, next: u32, k: u32, c: Marks) -> Tour

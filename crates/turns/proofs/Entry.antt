@@ -17,21 +17,22 @@ use Rattle.table.proofs.Tests.{byBool, clash, and-1, and-2, leb-true}
 use Rattle.table.proofs.Question2.{question-one}
 use Rattle.receiver.specs.declared.Part.{Part}
 use Rattle.receiver.specs.Calls.{unmadePart}
-use Rattle.rows.specs.declared.Key.{Key}
+use Rattle.scans.specs.declared.Key.{Key}
 use Rattle.rows.specs.declared.Row.{Row}
-use Rattle.rows.specs.declared.Ends.{Ends}
-use Rattle.rows.specs.declared.Look.{Look}
+use Rattle.scans.specs.declared.Ends.{Ends}
+use Rattle.scans.specs.declared.Look.{Look}
 use Rattle.rows.specs.Links.{blank}
 use Rattle.rows.specs.Read.{form, rowIs, endsOf, endsIs, watchOf, watchIs, foundIs, lookedIn, Looked}
-use Rattle.rows.specs.Search.{isUnfit, numberOf}
+use Rattle.scans.specs.Scan.{isUnfit, numberOf}
 use Rattle.rows.proofs.Chains.{rows-long}
-use Rattle.flat.specs.Words.{wordsOfRow, bytesOf, keyOf, rowFits, rowOf, junk, openedOf}
+use Rattle.flat.specs.Words.{wordsOfRow, rowFits, rowOf, junk, openedOf}
 use Rattle.flat.specs.Table.{rowsFrom, rowsOf}
 use Rattle.turns.specs.declared.Turned.the-variants.{Named}
 use Rattle.turns.specs.Turn.{startOf, namedBy, named, isIn, isUsed, keysOf, written, holds, nextOf, question8, refusal, acceptance, turnOn, Tick}
 use Rattle.turns.specs.Passes.{markAll, passed}
 use Rattle.turns.proofs.Numbers.{onward, start-below, onward-is}
 use Rattle.turns.proofs.Passes.{marks-tell, ahead, from-start, all-passed}
+use Rattle.packing.specs.Words.{bytesOf, keyOf}
 
 -- EVERY KEY HAS 32 BYTES
 bytes-long : (n w : ℕ) → length (bytesOf n w) ≡ n

@@ -14,8 +14,8 @@ ghost use Rattle.rows.specs.Read.{form, rowIs, endsOf, endsIs, watchIs};
 ghost use Rattle.flat.specs.Table.{rowsOf};
 ghost use Rattle.turns.specs.Turn.{startOf, following, question8, turnOn};
 ghost use Rattle.turns.specs.Passes.{markAll, countAfter, listAfter, passed};
-use rows::Ends;
-use rows::Key;
+use scans::Ends;
+use scans::Key;
 
 // What a tick answers: the number of the question that refused it; or how many keys it gave, and the next row number.
 pub enum Turned {
@@ -148,17 +148,17 @@ pub fn turn(
 {
     let e = ends_of(ends);
     let l = chains::look_up(rows, cells.len(), e, no_key());
-    let bad = rows::unfit(l);
+    let bad = scans::unfit(l);
     if bad {
-        return Turned::Refused(rows::number_of(l));
+        return Turned::Refused(scans::number_of(l));
     }
     let n = flat::count(rows);
     let may = may_turn(n, k, list.len());
-    let may_not = rows::negated(may);
+    let may_not = scans::negated(may);
     if may_not {
         return Turned::Refused(8);
     }
     let mut marks = [false; 4096];
-    mark_used(rows, n, rows::head_of(e), &mut marks);
+    mark_used(rows, n, scans::head_of(e), &mut marks);
     pass(rows, &marks, n, start(n, next), k, list)
 }

@@ -8,14 +8,14 @@ use Rattle.moves.proofs.Count as Count
 use Rattle.moves.proofs.Count.Laws as Count′
 use Rattle.sites.proofs.Claimed as Claimed
 use Rattle.sites.proofs.Claimed.Laws as Claimed′
-use Rattle.receiver.proofs.Claiming as Claiming
-use Rattle.receiver.proofs.Claiming.Laws as Claiming′
-use Rattle.receiver.proofs.Hearing as Hearing
-use Rattle.receiver.proofs.Hearing.Laws as Hearing′
-use Rattle.receiver.proofs.Heard as Heard
-use Rattle.receiver.proofs.Heard.Laws as Heard′
-use Rattle.receiver.proofs.Position as Position
-use Rattle.receiver.proofs.Position.Laws as Position′
+use Rattle.heard.proofs.Claiming as Claiming
+use Rattle.heard.proofs.Claiming.Laws as Claiming′
+use Rattle.heard.proofs.Hearing as Hearing
+use Rattle.heard.proofs.Hearing.Laws as Hearing′
+use Rattle.heard.proofs.Heard as Heard
+use Rattle.heard.proofs.Heard.Laws as Heard′
+use Rattle.heard.proofs.Position as Position
+use Rattle.heard.proofs.Position.Laws as Position′
 use Rattle.near_field.proofs.Judgment as Judgment
 use Rattle.near_field.proofs.Judgment.Laws as Judgment′
 

@@ -1,25 +1,26 @@
 // The siting watch: seven calls over rows, cells and ends that the caller lends. Nothing is asked of them: a watch that is not in order is
-// refused, and a refusal changes nothing. A call looks at each row once (crate `records`), decides on values (crate `moves`), and then stores.
+// refused, and a refusal changes nothing. A call looks at each row once (crate `records`), decides on values (crates `bodies` and `moves`), and then stores.
 ghost use mathlib.Core.Path.{_≡_};
 ghost use mathlib.Core.Bool.{true, false};
 ghost use lib.ListN.{getD};
-ghost use Rattle.receiver.specs.Heard.{siteFits};
+ghost use Rattle.heard.specs.Heard.{siteFits};
 ghost use Rattle.receiver.specs.Calls as calls;
 ghost use Rattle.rows.specs.Read.{watchIs};
 ghost use Rattle.rows.specs.Links.{blank};
-ghost use Rattle.rows.specs.Search.{isNo, isUnfit, atOf};
 ghost use Rattle.moves.specs.Answers.{outcome};
-ghost use Rattle.moves.specs.Moves.{ClaimedRow, HeardRow, dueLook, judgedAs, judgedRows, checkedAs, removeMove, removedRows};
+ghost use Rattle.moves.specs.Moves.{ClaimedRow, HeardRow, judgedAs, judgedRows, checkedAs, removeMove, removedRows};
+ghost use Rattle.scans.specs.Scan.{isNo, isUnfit, atOf};
+ghost use Rattle.bodies.specs.Bodies.{dueLook};
+use heard::Heard;
+use heard::Position;
 use moves::Answer;
 use moves::Count;
 use moves::Move;
 use near_field::Judgment;
-use receiver::Heard;
-use receiver::Position;
-use rows::Ends;
-use rows::Key;
-use rows::Look;
 use rows::Row;
+use scans::Ends;
+use scans::Key;
+use scans::Look;
 use sites::Claimed;
 
 // ---- fresh
@@ -29,14 +30,14 @@ pub fn fresh(rows: &mut [Row], cells: &mut [u32], ends: &mut [u32; 3]) -> Answer
     ensures { λ r. ⌜ outcome r (now (rows .exit)) (now (cells .exit)) (now (ends .exit)) ≡ calls.freshCall (watchIs (now (rows .entry)) (now (cells .entry)) (now (ends .entry))) ⌝ }
 {
     let fit = rows::sizes_fit(rows.len(), cells.len());
-    let bad = rows::negated(fit);
+    let bad = scans::negated(fit);
     if bad {
         return moves::no_first();
     }
     let n = rows.len();
     records::fresh_rows(rows, n);
-    moves::fresh_cells(cells);
-    moves::keep(ends, rows::fresh_ends());
+    bodies::fresh_cells(cells);
+    moves::keep(ends, scans::fresh_ends());
     moves::done()
 }
 
@@ -47,17 +48,17 @@ fn claim_row(rows: &mut [Row], e: Ends, l: Look, key: Key, site: Claimed) -> Mov
     requires { ⌜ (isUnfit l ≡ false → siteFits (getD (now rows) (atOf l) blank .part .heard .site) ≡ true) ⌝ }
     ensures { λ r. ⌜ ClaimedRow (now (rows .entry)) e l key site r (now (rows .exit)) ⌝ }
 {
-    let bad = rows::unfit(l);
+    let bad = scans::unfit(l);
     if bad {
         return moves::unfit_move(e, l);
     }
     let row = records::found(rows, l);
-    let c = moves::claiming(row, site);
-    let outside = moves::is_refused(c);
+    let c = bodies::claiming(row, site);
+    let outside = bodies::is_refused(c);
     if outside {
         return moves::outside_move(e);
     }
-    let s = records::insert_active(rows, e, l, key, moves::claim_part(row, c));
+    let s = records::insert_active(rows, e, l, key, bodies::claim_part(row, c));
     moves::seat_move(s, c)
 }
 
@@ -86,18 +87,18 @@ fn hear_row(rows: &mut [Row], e: Ends, l: Look, p: Position) -> Count
     requires { ⌜ (isNo l ≡ false → siteFits (getD (now rows) (atOf l) blank .part .heard .site) ≡ true) ⌝ }
     ensures { λ r. ⌜ HeardRow (now (rows .entry)) e l p r (now (rows .exit)) ⌝ }
 {
-    let bad = rows::is_no(l);
+    let bad = scans::is_no(l);
     if bad {
         return moves::uncounted(e, l);
     }
     let row = records::found(rows, l);
-    let i = rows::at_of(l);
-    let h = moves::hear(row, p);
-    let no = moves::is_unheard(h);
+    let i = scans::at_of(l);
+    let h = bodies::hear(row, p);
+    let no = bodies::is_unheard(h);
     if no {
         return moves::unheard(e, i, h);
     }
-    let d = records::mark(rows, e, i, moves::hear_part(row, h));
+    let d = records::mark(rows, e, i, bodies::hear_part(row, h));
     moves::counted(d, i, h)
 }
 
@@ -125,27 +126,27 @@ pub fn position(
 fn due_at(rows: &[Row], l: Look, now_ms: u64) -> Look
     ensures { λ r. ⌜ r ≡ dueLook l (getD (now (rows .entry)) (atOf l) blank .part .«judged_ms») «now_ms» ⌝ }
 {
-    moves::due(l, records::found(rows, l), now_ms)
+    bodies::due(l, records::found(rows, l), now_ms)
 }
 
 // What was heard by the row that was found.
 fn heard_at(rows: &[Row], l: Look) -> Heard
     ensures { λ r. ⌜ r ≡ getD (now (rows .entry)) (atOf l) blank .part .heard ⌝ }
 {
-    moves::heard_in(records::found(rows, l))
+    bodies::heard_in(records::found(rows, l))
 }
 
 // The judgment and its clock are kept by the row that was found.
 fn judge_row(rows: &mut [Row], l: Look, now_ms: u64, j: Judgment) -> Answer
     ensures { λ r. ⌜ (r ≡ judgedAs l j) × (now (rows .exit) ≡ judgedRows (now (rows .entry)) l «now_ms» j) ⌝ }
 {
-    let bad = rows::is_no(l);
+    let bad = scans::is_no(l);
     if bad {
         return moves::no_to(l);
     }
-    let i = rows::at_of(l);
+    let i = scans::at_of(l);
     let row = records::get(rows, i);
-    records::put(rows, i, moves::judged_part(row, now_ms, j));
+    records::put(rows, i, bodies::judged_part(row, now_ms, j));
     moves::judged(j)
 }
 
@@ -163,7 +164,7 @@ pub fn judging(
     let e = moves::ends_of(ends);
     let l = records::look_up(rows, cells.len(), e, key);
     let d = due_at(rows, l, now_ms);
-    let j = moves::judge_at(cells, d, heard_at(rows, d), now_ms, aircraft);
+    let j = bodies::judge_at(cells, d, heard_at(rows, d), now_ms, aircraft);
     judge_row(rows, d, now_ms, j)
 }
 
@@ -173,7 +174,7 @@ pub fn judging(
 fn check_row(rows: &[Row], l: Look) -> Answer
     ensures { λ r. ⌜ r ≡ checkedAs l (getD (now (rows .entry)) (atOf l) blank .part .verdict) ⌝ }
 {
-    let bad = rows::is_no(l);
+    let bad = scans::is_no(l);
     if bad {
         return moves::no_to(l);
     }
@@ -195,11 +196,11 @@ pub fn check(rows: &mut [Row], cells: &mut [u32], ends: &mut [u32; 3], key: Key)
 fn remove(rows: &mut [Row], e: Ends, l: Look) -> Move
     ensures { λ r. ⌜ (r ≡ removeMove (now (rows .entry)) e l) × (now (rows .exit) ≡ removedRows (now (rows .entry)) e l) ⌝ }
 {
-    let bad = rows::is_no(l);
+    let bad = scans::is_no(l);
     if bad {
         return moves::unfit_move(e, l);
     }
-    let i = rows::at_of(l);
+    let i = scans::at_of(l);
     let row = records::get(rows, i);
     let d = records::release(rows, e, i);
     moves::moving(d, l, moves::freed_row(row))

@@ -2,7 +2,7 @@
 use mathlib.Core.Path.{_≡_}
 use borrow.Author.Needs.{needs}
 use Rattle.rows.specs.Search.{scanned}
-use Rattle.flat.specs.Words.{keyOf}
+use Rattle.packing.specs.Words.{keyOf}
 use Rattle.flat.specs.Table.{rowsOf}
 use Rattle.chains.proofs.Laws.{scan-within, scan-goes, scan-key, scan-less, scan-ends}
 use Rattle.chains.proofs.scan.Statement.{statement}

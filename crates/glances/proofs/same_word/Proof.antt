@@ -1,5 +1,5 @@
 -- `glances::same_word` meets its contract: each way out is a law that is cited below, at what the code found.
-use Rattle.flat.proofs.Opening.{below64}
+use Rattle.packing.proofs.Opening.{below64}
 use borrow.Author.Needs.{needs}
 use Rattle.glances.proofs.same_word.Statement.{statement}
 use Rattle.glances.proofs.same_word.Tie as tie

@@ -4,7 +4,7 @@ use Rattle.moves.proofs.check_answer.Statement.{statement}
 use Rattle.moves.proofs.check_answer.Tie as tie
 use Rattle.moves.proofs.check_answer.Reads as reads
 use Rattle.moves.proofs.check_answer.Lts as lts
-use Rattle.receiver.proofs.run.says.Reads as says-reads
+use Rattle.verdicts.proofs.says.Reads as says-reads
 use Rattle.moves.proofs.refused.Reads as refused-reads
 use Rattle.moves.proofs.say.Reads as say-reads
 

@@ -4,7 +4,7 @@ use Rattle.moves.proofs.claim_answer.Statement.{statement}
 use Rattle.moves.proofs.claim_answer.Tie as tie
 use Rattle.moves.proofs.claim_answer.Reads as reads
 use Rattle.moves.proofs.claim_answer.Lts as lts
-use Rattle.moves.proofs.heard_of.Reads as heard-of-reads
+use Rattle.bodies.proofs.heard_of.Reads as heard-of-reads
 
 heard-of-requires : tie.Need-heard-of-requires
 heard-of-requires c κs = search needs

@@ -4,7 +4,7 @@ use Rattle.moves.proofs.clear_of.Statement.{statement}
 use Rattle.moves.proofs.clear_of.Tie as tie
 use Rattle.moves.proofs.clear_of.Reads as reads
 use Rattle.moves.proofs.clear_of.Lts as lts
-use Rattle.moves.proofs.has_moved.Reads as has-moved-reads
+use Rattle.bodies.proofs.has_moved.Reads as has-moved-reads
 
 has-moved-requires : tie.Need-has-moved-requires
 has-moved-requires c κs = search needs

@@ -4,8 +4,8 @@ use Rattle.moves.proofs.count_at.Statement.{statement}
 use Rattle.moves.proofs.count_at.Tie as tie
 use Rattle.moves.proofs.count_at.Reads as reads
 use Rattle.moves.proofs.count_at.Lts as lts
-use Rattle.moves.proofs.count_in.Reads as count-in-reads
-use Rattle.moves.proofs.is_unheard.Reads as is-unheard-reads
+use Rattle.bodies.proofs.count_in.Reads as count-in-reads
+use Rattle.bodies.proofs.is_unheard.Reads as is-unheard-reads
 
 is-unheard-requires : tie.Need-is-unheard-requires
 is-unheard-requires c κs = search needs

@@ -4,7 +4,7 @@ use Rattle.moves.proofs.no_to.Statement.{statement}
 use Rattle.moves.proofs.no_to.Tie as tie
 use Rattle.moves.proofs.no_to.Reads as reads
 use Rattle.moves.proofs.no_to.Lts as lts
-use Rattle.rows.proofs.number_of.Reads as number-of-reads
+use Rattle.scans.proofs.number_of.Reads as number-of-reads
 use Rattle.moves.proofs.refused.Reads as refused-reads
 
 number-of-requires : tie.Need-number-of-requires

@@ -4,8 +4,8 @@ use Rattle.moves.proofs.oldest_of.Statement.{statement}
 use Rattle.moves.proofs.oldest_of.Tie as tie
 use Rattle.moves.proofs.oldest_of.Reads as reads
 use Rattle.moves.proofs.oldest_of.Lts as lts
-use Rattle.rows.proofs.is_none.Reads as is-none-reads
-use Rattle.rows.proofs.unfit.Reads as unfit-reads
+use Rattle.scans.proofs.is_none.Reads as is-none-reads
+use Rattle.scans.proofs.unfit.Reads as unfit-reads
 
 unfit-requires : tie.Need-unfit-requires
 unfit-requires c κs = search needs

@@ -6,7 +6,7 @@ use borrow.Author.Needs.{needs}
 use Rattle.cells.proofs.Passes.{sum-step}
 use Rattle.cells.specs.Passes.{howMany}
 use Rattle.plane.proofs.Same.{part-of}
-use Rattle.nothing_near.proofs.Sums.{sum-more}
+use Rattle.nearest.proofs.Sums.{sum-more}
 use Rattle.nothing_near.proofs.Silent.{isNear, near-is, rows-before, rows-after}
 use Rattle.nothing_near.proofs.near_cells.Statement.{statement}
 use Rattle.nothing_near.proofs.near_cells.Tie as tie

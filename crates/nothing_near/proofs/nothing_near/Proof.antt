@@ -4,11 +4,12 @@ use Prim.Native.Nat.{_+_}
 use native.Mathlib.Omega.{arith}
 use borrow.Author.Needs.{needs}
 use lib.ListN.{length}
-use Rattle.nothing_near.specs.Counted.{positionsAmong, allSteps, twoNearest, Kept}
-use Rattle.nothing_near.specs.Nothing.{placesHeard, positionsIn}
+use Rattle.nearest.specs.Counted.{positionsAmong, allSteps, twoNearest}
+use Rattle.nothing_near.specs.Counted.{Kept}
+use Rattle.nearest.specs.Nothing.{placesHeard, positionsIn}
 use Rattle.nothing_near.proofs.Counted.{positions-counted}
-use Rattle.nothing_near.proofs.Two.{cells-nearest, bins-nearest}
-use Rattle.nothing_near.proofs.Answers.{few-positions, some-near, is-off}
+use Rattle.nearest.proofs.Two.{cells-nearest, bins-nearest}
+use Rattle.nearest.proofs.Answers.{few-positions, some-near, is-off}
 use Rattle.nothing_near.proofs.nothing_near.Statement.{statement}
 use Rattle.nothing_near.proofs.nothing_near.Tie as tie
 

@@ -7,13 +7,14 @@ use native.Mathlib.Omega.{arith}
 use borrow.Author.Needs.{needs}
 use lib.ListN.{length}
 use Rattle.view.specs.View.{Unheard}
-use Rattle.nothing_near.specs.Counted.{positionsAmong, noSteps, twoNearest, Kept}
-use Rattle.nothing_near.specs.Nothing.{cellPlace, heard, placesHeard, positionsIn}
+use Rattle.nearest.specs.Counted.{positionsAmong, noSteps, twoNearest}
+use Rattle.nothing_near.specs.Counted.{Kept}
+use Rattle.nearest.specs.Nothing.{cellPlace, heard, placesHeard, positionsIn}
 use Rattle.nothing_near.proofs.Counted.{positions-counted}
 use Rattle.nothing_near.proofs.Silent.{unheard, silent-positions, silent-near, silent-heard, silent-steps}
 use Rattle.nothing_near.proofs.Third.{none-near}
-use Rattle.nothing_near.proofs.Two.{bins-nearest}
-use Rattle.nothing_near.proofs.Answers.{few-positions, is-off}
+use Rattle.nearest.proofs.Two.{bins-nearest}
+use Rattle.nearest.proofs.Answers.{few-positions, is-off}
 use Rattle.nothing_near.proofs.nothing_near_far.Statement.{statement}
 use Rattle.nothing_near.proofs.nothing_near_far.Tie as tie
 

@@ -3,7 +3,7 @@ use mathlib.Core.Path.{_≡_, sym}
 use native.Mathlib.Omega.{arith}
 use borrow.Author.Needs.{needs}
 use lib.ListN.{length}
-use Rattle.nothing_near.specs.Nothing.{places}
+use Rattle.nearest.specs.Nothing.{places}
 use Rattle.nothing_near.proofs.Counted.{places-counted}
 use Rattle.nothing_near.proofs.places_in.Statement.{statement}
 use Rattle.nothing_near.proofs.places_in.Tie as tie

@@ -4,9 +4,10 @@ use mathlib.Core.Path.{_≡_, sym}
 use Prim.Native.Nat.{ℕ, suc, _-_, _≤_, _<_}
 use native.Mathlib.Omega.{arith}
 use borrow.Author.Count.{below-none, below-more}
-use Rattle.nothing_near.specs.Counted.{below, reachedAt}
+use Rattle.nearest.specs.Counted.{below}
+use Rattle.nothing_near.specs.Counted.{reachedAt}
 use Rattle.nothing_near.proofs.Typical.{found-steps, reached-yes, reached-not}
-use Rattle.nothing_near.proofs.Gathered.{below-zero, below-suc, below-plus}
+use Rattle.nearest.proofs.Gathered.{below-zero, below-suc, below-plus}
 use borrow.Author.Needs.{needs}
 use Rattle.nothing_near.proofs.typical_steps.Statement.{statement}
 use Rattle.nothing_near.proofs.typical_steps.Tie as tie

@@ -3,16 +3,16 @@
 use Rattle.walks.proofs.Kit.{Head, Ty, entry, spelled, Fits, _≡_, refl, sym, _∙_, ℕ, List, [], _∷_, length, getD, URA, named, SProp, ent, emp, id⊢, via, fst∗, Lft, Share, GName, flft, Memory, Routine, Heap, Calls, Loops, WpFn, Atoms, Fun, factI, Given, ⋆, ‵, _$_, _∵_, !, qed, by, move, look, init, stop, hop, fld, from, load, addr, of-opd, and-then, no-more, assigns, land, returns, returns-within, enter, alloc1, alloc0, params1, pass1, pass0, free0, whole, sub, agg, look-in, FmC, Is, MutSlice, sliceVal, Room, Meets, ref-at, call-plain, call-view, call-mut, guards, the-given, the-tables, known, framed, mut-closed, truth, out, out-room, mut-exits, MutPost}
 use Rattle.receiver.specs.declared.Part.{Part}
 use Rattle.rows.specs.declared.Row.{Row}
-use Rattle.rows.specs.declared.Ends.{Ends}
-use Rattle.rows.specs.declared.Key.{Key}
-use Rattle.rows.specs.declared.Look.{Look}
+use Rattle.scans.specs.declared.Ends.{Ends}
+use Rattle.scans.specs.declared.Key.{Key}
+use Rattle.scans.specs.declared.Look.{Look}
 use Rattle.rows.specs.Links.{blank, markedRows, markedEnds, enteredRows, enteredEnds, keptSeat, madeSeat}
-use Rattle.rows.specs.Search.{isNo, atOf}
+use Rattle.scans.specs.Scan.{isNo, atOf}
 use Rattle.rows.proofs.Tables.{seat-made, seat-kept}
 use Rattle.records.proofs.Types.{R, link, row, ends, key, part, seat, looked}
-use Rattle.rows.proofs.is_no as is-no
-use Rattle.rows.proofs.is_no.Symbol as is-no-def
-use Rattle.rows.proofs.is_no.Met as is-no-thm
+use Rattle.scans.proofs.is_no as is-no
+use Rattle.scans.proofs.is_no.Symbol as is-no-def
+use Rattle.scans.proofs.is_no.Met as is-no-thm
 use Rattle.records.proofs.oldest as oldest
 use Rattle.records.proofs.oldest.Symbol as oldest-def
 use Rattle.records.proofs.oldest.Met as oldest-thm
@@ -22,9 +22,9 @@ use Rattle.records.proofs.enter.Met as enter-thm
 use Rattle.rows.proofs.made_seat as made-seat
 use Rattle.rows.proofs.made_seat.Symbol as made-seat-def
 use Rattle.rows.proofs.made_seat.Met as made-seat-thm
-use Rattle.rows.proofs.at_of as at-of
-use Rattle.rows.proofs.at_of.Symbol as at-of-def
-use Rattle.rows.proofs.at_of.Met as at-of-thm
+use Rattle.scans.proofs.at_of as at-of
+use Rattle.scans.proofs.at_of.Symbol as at-of-def
+use Rattle.scans.proofs.at_of.Met as at-of-thm
 use Rattle.records.proofs.mark as mark
 use Rattle.records.proofs.mark.Symbol as mark-def
 use Rattle.records.proofs.mark.Met as mark-thm
@@ -82,11 +82,11 @@ unfolding code.routine
 insert-active-spec 𝓤 H 𝓜 𝓖 𝓡 =
     mut-closed 𝓤 H 𝓜 𝓖 𝓡 R (ends ∷ looked ∷ key ∷ part ∷ []) seat code.env name code.function (code.unfolded 𝓤 H 𝓜 𝓡) (insert-active.clauses 𝓤 H (𝓖 .A) (𝓜 .mem) (𝓡 .run)) (λ κ q γ b o xs a g room fit. via 𝓤 _ (fst∗ 𝓤 _ (emp 𝓤))
     (walk 𝓤 H (𝓖 .A) (the-given 𝓤 H 𝓜 𝓖 𝓡) (𝓜 .mem) (𝓡 .run) (the-tables 𝓤 H 𝓜 𝓖 𝓡 code.env .C) (the-tables 𝓤 H 𝓜 𝓖 𝓡 code.env .Λ) (framed 𝓤 H 𝓜 𝓖 𝓡 code.env) (entry written.table) (λ x is. row .lawful 𝓤 H (𝓖 .A) (the-given 𝓤 H 𝓜 𝓖 𝓡) .typed x _ is .0) (λ x is. ends .lawful 𝓤 H (𝓖 .A) (the-given 𝓤 H 𝓜 𝓖 𝓡) .typed x _ is .0) (λ x is. seat .lawful 𝓤 H (𝓖 .A) (the-given 𝓤 H 𝓜 𝓖 𝓡) .typed x _ is .0) (λ x is. looked .lawful 𝓤 H (𝓖 .A) (the-given 𝓤 H 𝓜 𝓖 𝓡) .typed x _ is .0) (λ x is. key .lawful 𝓤 H (𝓖 .A) (the-given 𝓤 H 𝓜 𝓖 𝓡) .typed x _ is .0) (λ x is. part .lawful 𝓤 H (𝓖 .A) (the-given 𝓤 H 𝓜 𝓖 𝓡) .typed x _ is .0)
-    (known 𝓤 H 𝓜 𝓖 𝓡 is-no.signature (is-no.spec 𝓤 H (𝓖 .A) (𝓜 .mem) (𝓡 .run)) code.env is-no-def.name is-no-def.routine code.calls-rows·is-no (is-no-thm.met 𝓤 H 𝓜 𝓖 𝓡))
+    (known 𝓤 H 𝓜 𝓖 𝓡 is-no.signature (is-no.spec 𝓤 H (𝓖 .A) (𝓜 .mem) (𝓡 .run)) code.env is-no-def.name is-no-def.routine code.calls-scans·is-no (is-no-thm.met 𝓤 H 𝓜 𝓖 𝓡))
     (known 𝓤 H 𝓜 𝓖 𝓡 oldest.signature (oldest.spec 𝓤 H (𝓖 .A) (𝓜 .mem) (𝓡 .run)) code.env oldest-def.name oldest-def.routine code.calls-records·oldest (oldest-thm.met 𝓤 H 𝓜 𝓖 𝓡))
     (known 𝓤 H 𝓜 𝓖 𝓡 enter.signature (enter.spec 𝓤 H (𝓖 .A) (𝓜 .mem) (𝓡 .run)) code.env enter-def.name enter-def.routine code.calls-records·enter (enter-thm.met 𝓤 H 𝓜 𝓖 𝓡))
     (known 𝓤 H 𝓜 𝓖 𝓡 made-seat.signature (made-seat.spec 𝓤 H (𝓖 .A) (𝓜 .mem) (𝓡 .run)) code.env made-seat-def.name made-seat-def.routine code.calls-rows·made-seat (made-seat-thm.met 𝓤 H 𝓜 𝓖 𝓡))
-    (known 𝓤 H 𝓜 𝓖 𝓡 at-of.signature (at-of.spec 𝓤 H (𝓖 .A) (𝓜 .mem) (𝓡 .run)) code.env at-of-def.name at-of-def.routine code.calls-rows·at-of (at-of-thm.met 𝓤 H 𝓜 𝓖 𝓡))
+    (known 𝓤 H 𝓜 𝓖 𝓡 at-of.signature (at-of.spec 𝓤 H (𝓖 .A) (𝓜 .mem) (𝓡 .run)) code.env at-of-def.name at-of-def.routine code.calls-scans·at-of (at-of-thm.met 𝓤 H 𝓜 𝓖 𝓡))
     (known 𝓤 H 𝓜 𝓖 𝓡 mark.signature (mark.spec 𝓤 H (𝓖 .A) (𝓜 .mem) (𝓡 .run)) code.env mark-def.name mark-def.routine code.calls-records·mark (mark-thm.met 𝓤 H 𝓜 𝓖 𝓡))
     (known 𝓤 H 𝓜 𝓖 𝓡 kept-seat.signature (kept-seat.spec 𝓤 H (𝓖 .A) (𝓜 .mem) (𝓡 .run)) code.env kept-seat-def.name kept-seat-def.routine code.calls-rows·kept-seat (kept-seat-thm.met 𝓤 H 𝓜 𝓖 𝓡))
     κ q γ b o xs (a .0) (a .1 .0) (a .1 .1 .0) (a .1 .1 .1 .0) room (fit .0) (fit .1 .0) (fit .1 .1 .0) (fit .1 .1 .1 .0)))

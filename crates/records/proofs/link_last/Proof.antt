@@ -3,18 +3,19 @@
 use Rattle.walks.proofs.Kit.{Head, Ty, entry, spelled, Fits, _≡_, refl, ℕ, List, [], _∷_, length, getD, set, URA, named, SProp, ent, emp, id⊢, via, fst∗, Lft, Share, GName, flft, Memory, Routine, Heap, Calls, Loops, WpFn, Atoms, Fun, factI, Given, ⋆, ‵, _$_, _∵_, !, qed, by, move, look, init, store, stop, hop, fld, from, load, addr, and-then, no-more, assigns, land, returns, enter, alloc1, alloc0, params1, pass1, pass0, free0, whole, sub, agg, look-in, FmC, Is, MutSlice, sliceVal, Room, Meets, ref-at, call-plain, call-view, call-mut, the-given, the-tables, known, framed, mut-closed, none, out, mut-exits, MutPost}
 use Rattle.table.specs.Rows.{NONE}
 use Rattle.rows.specs.declared.Row.{Row}
-use Rattle.rows.specs.declared.Ends.{Ends}
-use Rattle.rows.specs.Links.{blank, withLinks, nexted, linkedEnds}
+use Rattle.scans.specs.declared.Ends.{Ends}
+use Rattle.rows.specs.Links.{blank, withLinks, nexted}
+use Rattle.scans.specs.Ends.{linkedEnds}
 use Rattle.records.proofs.Types.{R, link, row, ends}
-use Rattle.rows.proofs.tail_of as tail-of
-use Rattle.rows.proofs.tail_of.Symbol as tail-of-def
-use Rattle.rows.proofs.tail_of.Met as tail-of-thm
+use Rattle.scans.proofs.tail_of as tail-of
+use Rattle.scans.proofs.tail_of.Symbol as tail-of-def
+use Rattle.scans.proofs.tail_of.Met as tail-of-thm
 use Rattle.records.proofs.get as get
 use Rattle.records.proofs.get.Symbol as get-def
 use Rattle.records.proofs.get.Met as get-thm
-use Rattle.rows.proofs.no_row as no-row
-use Rattle.rows.proofs.no_row.Symbol as no-row-def
-use Rattle.rows.proofs.no_row.Met as no-row-thm
+use Rattle.scans.proofs.no_row as no-row
+use Rattle.scans.proofs.no_row.Symbol as no-row-def
+use Rattle.scans.proofs.no_row.Met as no-row-thm
 use Rattle.rows.proofs.with_links as with-links
 use Rattle.rows.proofs.with_links.Symbol as with-links-def
 use Rattle.rows.proofs.with_links.Met as with-links-thm
@@ -24,9 +25,9 @@ use Rattle.records.proofs.put.Met as put-thm
 use Rattle.records.proofs.set_next as set-next
 use Rattle.records.proofs.set_next.Symbol as set-next-def
 use Rattle.records.proofs.set_next.Met as set-next-thm
-use Rattle.rows.proofs.linked_ends as linked-ends
-use Rattle.rows.proofs.linked_ends.Symbol as linked-ends-def
-use Rattle.rows.proofs.linked_ends.Met as linked-ends-thm
+use Rattle.scans.proofs.linked_ends as linked-ends
+use Rattle.scans.proofs.linked_ends.Symbol as linked-ends-def
+use Rattle.scans.proofs.linked_ends.Met as linked-ends-thm
 use Rattle.records.proofs.link_last.Key.{name}
 use Rattle.records.proofs.link_last as link-last
 use Rattle.records.proofs.link_last.Statement as stated
@@ -72,11 +73,11 @@ unfolding code.routine
 link-last-spec 𝓤 H 𝓜 𝓖 𝓡 =
     mut-closed 𝓤 H 𝓜 𝓖 𝓡 R (ends ∷ link ∷ []) ends code.env name code.function (code.unfolded 𝓤 H 𝓜 𝓡) (link-last.clauses 𝓤 H (𝓖 .A) (𝓜 .mem) (𝓡 .run)) (λ κ q γ b o xs a g room fit. via 𝓤 _ (fst∗ 𝓤 _ (emp 𝓤))
     (walk 𝓤 H (𝓖 .A) (the-given 𝓤 H 𝓜 𝓖 𝓡) (𝓜 .mem) (𝓡 .run) (the-tables 𝓤 H 𝓜 𝓖 𝓡 code.env .C) (the-tables 𝓤 H 𝓜 𝓖 𝓡 code.env .Λ) (framed 𝓤 H 𝓜 𝓖 𝓡 code.env) (entry written.table) (λ x is. row .lawful 𝓤 H (𝓖 .A) (the-given 𝓤 H 𝓜 𝓖 𝓡) .typed x _ is .0) (λ x is. ends .lawful 𝓤 H (𝓖 .A) (the-given 𝓤 H 𝓜 𝓖 𝓡) .typed x _ is .0)
-    (known 𝓤 H 𝓜 𝓖 𝓡 tail-of.signature (tail-of.spec 𝓤 H (𝓖 .A) (𝓜 .mem) (𝓡 .run)) code.env tail-of-def.name tail-of-def.routine code.calls-rows·tail-of (tail-of-thm.met 𝓤 H 𝓜 𝓖 𝓡))
+    (known 𝓤 H 𝓜 𝓖 𝓡 tail-of.signature (tail-of.spec 𝓤 H (𝓖 .A) (𝓜 .mem) (𝓡 .run)) code.env tail-of-def.name tail-of-def.routine code.calls-scans·tail-of (tail-of-thm.met 𝓤 H 𝓜 𝓖 𝓡))
     (known 𝓤 H 𝓜 𝓖 𝓡 get.signature (get.spec 𝓤 H (𝓖 .A) (𝓜 .mem) (𝓡 .run)) code.env get-def.name get-def.routine code.calls-records·get (get-thm.met 𝓤 H 𝓜 𝓖 𝓡))
-    (known 𝓤 H 𝓜 𝓖 𝓡 no-row.signature (no-row.spec 𝓤 H (𝓖 .A) (𝓜 .mem) (𝓡 .run)) code.env no-row-def.name no-row-def.routine code.calls-rows·no-row (no-row-thm.met 𝓤 H 𝓜 𝓖 𝓡))
+    (known 𝓤 H 𝓜 𝓖 𝓡 no-row.signature (no-row.spec 𝓤 H (𝓖 .A) (𝓜 .mem) (𝓡 .run)) code.env no-row-def.name no-row-def.routine code.calls-scans·no-row (no-row-thm.met 𝓤 H 𝓜 𝓖 𝓡))
     (known 𝓤 H 𝓜 𝓖 𝓡 with-links.signature (with-links.spec 𝓤 H (𝓖 .A) (𝓜 .mem) (𝓡 .run)) code.env with-links-def.name with-links-def.routine code.calls-rows·with-links (with-links-thm.met 𝓤 H 𝓜 𝓖 𝓡))
     (known 𝓤 H 𝓜 𝓖 𝓡 put.signature (put.spec 𝓤 H (𝓖 .A) (𝓜 .mem) (𝓡 .run)) code.env put-def.name put-def.routine code.calls-records·put (put-thm.met 𝓤 H 𝓜 𝓖 𝓡))
     (known 𝓤 H 𝓜 𝓖 𝓡 set-next.signature (set-next.spec 𝓤 H (𝓖 .A) (𝓜 .mem) (𝓡 .run)) code.env set-next-def.name set-next-def.routine code.calls-records·set-next (set-next-thm.met 𝓤 H 𝓜 𝓖 𝓡))
-    (known 𝓤 H 𝓜 𝓖 𝓡 linked-ends.signature (linked-ends.spec 𝓤 H (𝓖 .A) (𝓜 .mem) (𝓡 .run)) code.env linked-ends-def.name linked-ends-def.routine code.calls-rows·linked-ends (linked-ends-thm.met 𝓤 H 𝓜 𝓖 𝓡))
+    (known 𝓤 H 𝓜 𝓖 𝓡 linked-ends.signature (linked-ends.spec 𝓤 H (𝓖 .A) (𝓜 .mem) (𝓡 .run)) code.env linked-ends-def.name linked-ends-def.routine code.calls-scans·linked-ends (linked-ends-thm.met 𝓤 H 𝓜 𝓖 𝓡))
     κ q γ b o xs (a .0) (a .1 .0) room (fit .0) (fit .1 .0)))

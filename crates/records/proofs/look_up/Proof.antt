@@ -4,33 +4,34 @@ use Rattle.walks.proofs.Kit.{Head, Ty, entry, spelled, Fits, _≡_, refl, sym, 
 use mathlib.Core.Bool.{true, false, not}
 use borrow.Author.Tests.{not-true, not-false}
 use Rattle.rows.specs.declared.Row.{Row}
-use Rattle.rows.specs.declared.Ends.{Ends}
-use Rattle.rows.specs.declared.Key.{Key}
-use Rattle.rows.specs.declared.Look.the-variants as L
-use Rattle.rows.specs.Search.{sizesOf, startOf, scanned, lookOf}
+use Rattle.scans.specs.declared.Ends.{Ends}
+use Rattle.scans.specs.declared.Key.{Key}
+use Rattle.scans.specs.declared.Look.the-variants as L
+use Rattle.rows.specs.Search.{sizesOf, scanned}
+use Rattle.scans.specs.Scan.{startOf, lookOf}
 use Rattle.rows.proofs.Looks.{looks, looks-not}
 use Rattle.records.proofs.Types.{R, index, row, cursor, ends, key, looked}
 use Rattle.rows.proofs.sizes_fit as sizes-fit
 use Rattle.rows.proofs.sizes_fit.Symbol as sizes-fit-def
 use Rattle.rows.proofs.sizes_fit.Met as sizes-fit-thm
-use Rattle.rows.proofs.negated as negated
-use Rattle.rows.proofs.negated.Symbol as negated-def
-use Rattle.rows.proofs.negated.Met as negated-thm
-use Rattle.rows.proofs.no_one as no-one
-use Rattle.rows.proofs.no_one.Symbol as no-one-def
-use Rattle.rows.proofs.no_one.Met as no-one-thm
-use Rattle.rows.proofs.used_start as used-start
-use Rattle.rows.proofs.used_start.Symbol as used-start-def
-use Rattle.rows.proofs.used_start.Met as used-start-thm
+use Rattle.scans.proofs.negated as negated
+use Rattle.scans.proofs.negated.Symbol as negated-def
+use Rattle.scans.proofs.negated.Met as negated-thm
+use Rattle.scans.proofs.no_one as no-one
+use Rattle.scans.proofs.no_one.Symbol as no-one-def
+use Rattle.scans.proofs.no_one.Met as no-one-thm
+use Rattle.scans.proofs.used_start as used-start
+use Rattle.scans.proofs.used_start.Symbol as used-start-def
+use Rattle.scans.proofs.used_start.Met as used-start-thm
 use Rattle.records.proofs.scan as scan
 use Rattle.records.proofs.scan.Symbol as scan-def
 use Rattle.records.proofs.scan.Met as scan-thm
-use Rattle.rows.proofs.free_start as free-start
-use Rattle.rows.proofs.free_start.Symbol as free-start-def
-use Rattle.rows.proofs.free_start.Met as free-start-thm
-use Rattle.rows.proofs.look_of as look-of
-use Rattle.rows.proofs.look_of.Symbol as look-of-def
-use Rattle.rows.proofs.look_of.Met as look-of-thm
+use Rattle.scans.proofs.free_start as free-start
+use Rattle.scans.proofs.free_start.Symbol as free-start-def
+use Rattle.scans.proofs.free_start.Met as free-start-thm
+use Rattle.scans.proofs.look_of as look-of
+use Rattle.scans.proofs.look_of.Symbol as look-of-def
+use Rattle.scans.proofs.look_of.Met as look-of-thm
 use Rattle.records.proofs.look_up.Key.{name}
 use Rattle.records.proofs.look_up as look-up
 use Rattle.records.proofs.look_up.Statement as stated
@@ -83,10 +84,10 @@ look-up-spec 𝓤 H 𝓜 𝓖 𝓡 =
     shr-closed 𝓤 H 𝓜 𝓖 𝓡 R (index ∷ ends ∷ key ∷ []) looked code.env name code.function (code.unfolded 𝓤 H 𝓜 𝓡) (look-up.clauses 𝓤 H (𝓖 .A) (𝓜 .mem) (𝓡 .run)) (λ κ q γ b o xs a g room fit. via 𝓤 _ (fst∗ 𝓤 _ (emp 𝓤))
     (walk 𝓤 H (𝓖 .A) (the-given 𝓤 H 𝓜 𝓖 𝓡) (𝓜 .mem) (𝓡 .run) (the-tables 𝓤 H 𝓜 𝓖 𝓡 code.env .C) (the-tables 𝓤 H 𝓜 𝓖 𝓡 code.env .Λ) (framed 𝓤 H 𝓜 𝓖 𝓡 code.env) (entry written.table) (λ x is. looked .lawful 𝓤 H (𝓖 .A) (the-given 𝓤 H 𝓜 𝓖 𝓡) .typed x _ is .0) (λ x is. cursor .lawful 𝓤 H (𝓖 .A) (the-given 𝓤 H 𝓜 𝓖 𝓡) .typed x _ is .0) (λ x is. ends .lawful 𝓤 H (𝓖 .A) (the-given 𝓤 H 𝓜 𝓖 𝓡) .typed x _ is .0) (λ x is. key .lawful 𝓤 H (𝓖 .A) (the-given 𝓤 H 𝓜 𝓖 𝓡) .typed x _ is .0)
     (known 𝓤 H 𝓜 𝓖 𝓡 sizes-fit.signature (sizes-fit.spec 𝓤 H (𝓖 .A) (𝓜 .mem) (𝓡 .run)) code.env sizes-fit-def.name sizes-fit-def.routine code.calls-rows·sizes-fit (sizes-fit-thm.met 𝓤 H 𝓜 𝓖 𝓡))
-    (known 𝓤 H 𝓜 𝓖 𝓡 negated.signature (negated.spec 𝓤 H (𝓖 .A) (𝓜 .mem) (𝓡 .run)) code.env negated-def.name negated-def.routine code.calls-rows·negated (negated-thm.met 𝓤 H 𝓜 𝓖 𝓡))
-    (known 𝓤 H 𝓜 𝓖 𝓡 no-one.signature (no-one.spec 𝓤 H (𝓖 .A) (𝓜 .mem) (𝓡 .run)) code.env no-one-def.name no-one-def.routine code.calls-rows·no-one (no-one-thm.met 𝓤 H 𝓜 𝓖 𝓡))
-    (known 𝓤 H 𝓜 𝓖 𝓡 used-start.signature (used-start.spec 𝓤 H (𝓖 .A) (𝓜 .mem) (𝓡 .run)) code.env used-start-def.name used-start-def.routine code.calls-rows·used-start (used-start-thm.met 𝓤 H 𝓜 𝓖 𝓡))
+    (known 𝓤 H 𝓜 𝓖 𝓡 negated.signature (negated.spec 𝓤 H (𝓖 .A) (𝓜 .mem) (𝓡 .run)) code.env negated-def.name negated-def.routine code.calls-scans·negated (negated-thm.met 𝓤 H 𝓜 𝓖 𝓡))
+    (known 𝓤 H 𝓜 𝓖 𝓡 no-one.signature (no-one.spec 𝓤 H (𝓖 .A) (𝓜 .mem) (𝓡 .run)) code.env no-one-def.name no-one-def.routine code.calls-scans·no-one (no-one-thm.met 𝓤 H 𝓜 𝓖 𝓡))
+    (known 𝓤 H 𝓜 𝓖 𝓡 used-start.signature (used-start.spec 𝓤 H (𝓖 .A) (𝓜 .mem) (𝓡 .run)) code.env used-start-def.name used-start-def.routine code.calls-scans·used-start (used-start-thm.met 𝓤 H 𝓜 𝓖 𝓡))
     (known 𝓤 H 𝓜 𝓖 𝓡 scan.signature (scan.spec 𝓤 H (𝓖 .A) (𝓜 .mem) (𝓡 .run)) code.env scan-def.name scan-def.routine code.calls-records·scan (scan-thm.met 𝓤 H 𝓜 𝓖 𝓡))
-    (known 𝓤 H 𝓜 𝓖 𝓡 free-start.signature (free-start.spec 𝓤 H (𝓖 .A) (𝓜 .mem) (𝓡 .run)) code.env free-start-def.name free-start-def.routine code.calls-rows·free-start (free-start-thm.met 𝓤 H 𝓜 𝓖 𝓡))
-    (known 𝓤 H 𝓜 𝓖 𝓡 look-of.signature (look-of.spec 𝓤 H (𝓖 .A) (𝓜 .mem) (𝓡 .run)) code.env look-of-def.name look-of-def.routine code.calls-rows·look-of (look-of-thm.met 𝓤 H 𝓜 𝓖 𝓡))
+    (known 𝓤 H 𝓜 𝓖 𝓡 free-start.signature (free-start.spec 𝓤 H (𝓖 .A) (𝓜 .mem) (𝓡 .run)) code.env free-start-def.name free-start-def.routine code.calls-scans·free-start (free-start-thm.met 𝓤 H 𝓜 𝓖 𝓡))
+    (known 𝓤 H 𝓜 𝓖 𝓡 look-of.signature (look-of.spec 𝓤 H (𝓖 .A) (𝓜 .mem) (𝓡 .run)) code.env look-of-def.name look-of-def.routine code.calls-scans·look-of (look-of-thm.met 𝓤 H 𝓜 𝓖 𝓡))
     κ q γ b o xs (a .0) (a .1 .0) (a .1 .1 .0) room (fit .0) (fit .1 .0) (fit .1 .1 .0)))

@@ -5,19 +5,19 @@ use mathlib.Core.Bool.{not}
 use lib.Dec.{eqb}
 use Rattle.table.specs.Rows.{NONE}
 use Rattle.rows.specs.declared.Row.{Row}
-use Rattle.rows.specs.declared.Ends.{Ends}
+use Rattle.scans.specs.declared.Ends.{Ends}
 use Rattle.rows.specs.Links.{releasedRows, releasedEnds}
 use Rattle.rows.proofs.Tables.{room-no, room-yes}
 use Rattle.records.proofs.Types.{R, link, row, ends}
-use Rattle.rows.proofs.has_free as has-free
-use Rattle.rows.proofs.has_free.Symbol as has-free-def
-use Rattle.rows.proofs.has_free.Met as has-free-thm
-use Rattle.rows.proofs.same_ends as same-ends
-use Rattle.rows.proofs.same_ends.Symbol as same-ends-def
-use Rattle.rows.proofs.same_ends.Met as same-ends-thm
-use Rattle.rows.proofs.head_of as head-of
-use Rattle.rows.proofs.head_of.Symbol as head-of-def
-use Rattle.rows.proofs.head_of.Met as head-of-thm
+use Rattle.scans.proofs.has_free as has-free
+use Rattle.scans.proofs.has_free.Symbol as has-free-def
+use Rattle.scans.proofs.has_free.Met as has-free-thm
+use Rattle.scans.proofs.same_ends as same-ends
+use Rattle.scans.proofs.same_ends.Symbol as same-ends-def
+use Rattle.scans.proofs.same_ends.Met as same-ends-thm
+use Rattle.scans.proofs.head_of as head-of
+use Rattle.scans.proofs.head_of.Symbol as head-of-def
+use Rattle.scans.proofs.head_of.Met as head-of-thm
 use Rattle.records.proofs.release as release
 use Rattle.records.proofs.release.Symbol as release-def
 use Rattle.records.proofs.release.Met as release-thm
@@ -62,8 +62,8 @@ unfolding code.routine
 make-room-spec 𝓤 H 𝓜 𝓖 𝓡 =
     mut-closed 𝓤 H 𝓜 𝓖 𝓡 R (ends ∷ []) ends code.env name code.function (code.unfolded 𝓤 H 𝓜 𝓡) (make-room.clauses 𝓤 H (𝓖 .A) (𝓜 .mem) (𝓡 .run)) (λ κ q γ b o xs a g room fit. via 𝓤 _ (fst∗ 𝓤 _ (emp 𝓤))
     (walk 𝓤 H (𝓖 .A) (the-given 𝓤 H 𝓜 𝓖 𝓡) (𝓜 .mem) (𝓡 .run) (the-tables 𝓤 H 𝓜 𝓖 𝓡 code.env .C) (the-tables 𝓤 H 𝓜 𝓖 𝓡 code.env .Λ) (framed 𝓤 H 𝓜 𝓖 𝓡 code.env) (entry written.table) (λ x is. ends .lawful 𝓤 H (𝓖 .A) (the-given 𝓤 H 𝓜 𝓖 𝓡) .typed x _ is .0)
-    (known 𝓤 H 𝓜 𝓖 𝓡 has-free.signature (has-free.spec 𝓤 H (𝓖 .A) (𝓜 .mem) (𝓡 .run)) code.env has-free-def.name has-free-def.routine code.calls-rows·has-free (has-free-thm.met 𝓤 H 𝓜 𝓖 𝓡))
-    (known 𝓤 H 𝓜 𝓖 𝓡 same-ends.signature (same-ends.spec 𝓤 H (𝓖 .A) (𝓜 .mem) (𝓡 .run)) code.env same-ends-def.name same-ends-def.routine code.calls-rows·same-ends (same-ends-thm.met 𝓤 H 𝓜 𝓖 𝓡))
-    (known 𝓤 H 𝓜 𝓖 𝓡 head-of.signature (head-of.spec 𝓤 H (𝓖 .A) (𝓜 .mem) (𝓡 .run)) code.env head-of-def.name head-of-def.routine code.calls-rows·head-of (head-of-thm.met 𝓤 H 𝓜 𝓖 𝓡))
+    (known 𝓤 H 𝓜 𝓖 𝓡 has-free.signature (has-free.spec 𝓤 H (𝓖 .A) (𝓜 .mem) (𝓡 .run)) code.env has-free-def.name has-free-def.routine code.calls-scans·has-free (has-free-thm.met 𝓤 H 𝓜 𝓖 𝓡))
+    (known 𝓤 H 𝓜 𝓖 𝓡 same-ends.signature (same-ends.spec 𝓤 H (𝓖 .A) (𝓜 .mem) (𝓡 .run)) code.env same-ends-def.name same-ends-def.routine code.calls-scans·same-ends (same-ends-thm.met 𝓤 H 𝓜 𝓖 𝓡))
+    (known 𝓤 H 𝓜 𝓖 𝓡 head-of.signature (head-of.spec 𝓤 H (𝓖 .A) (𝓜 .mem) (𝓡 .run)) code.env head-of-def.name head-of-def.routine code.calls-scans·head-of (head-of-thm.met 𝓤 H 𝓜 𝓖 𝓡))
     (known 𝓤 H 𝓜 𝓖 𝓡 release.signature (release.spec 𝓤 H (𝓖 .A) (𝓜 .mem) (𝓡 .run)) code.env release-def.name release-def.routine code.calls-records·release (release-thm.met 𝓤 H 𝓜 𝓖 𝓡))
     κ q γ b o xs (a .0) room (fit .0)))

@@ -3,7 +3,7 @@
 use Rattle.walks.proofs.Kit.{Head, Ty, entry, spelled, Fits, _≡_, refl, ℕ, List, [], _∷_, length, getD, set, URA, named, SProp, ent, emp, id⊢, via, fst∗, Lft, Share, GName, flft, Memory, Routine, Heap, Calls, Loops, WpFn, Atoms, Fun, factI, Given, ⋆, ‵, _$_, _∵_, !, qed, by, move, look, init, stop, hop, fld, from, load, addr, and-then, no-more, assigns, land, returns, enter, alloc1, alloc0, params1, pass1, pass0, free0, whole, sub, agg, look-in, FmC, Is, MutSlice, sliceVal, Room, Meets, ref-at, call-plain, call-view, call-mut, the-given, the-tables, known, framed, mut-closed, none, out, mut-exits, MutPost}
 use Rattle.receiver.specs.declared.Part.{Part}
 use Rattle.rows.specs.declared.Row.{Row}
-use Rattle.rows.specs.declared.Ends.{Ends}
+use Rattle.scans.specs.declared.Ends.{Ends}
 use Rattle.rows.specs.Links.{blank, withPart, touchedRows, touchedEnds}
 use Rattle.records.proofs.Types.{R, link, row, ends, part}
 use Rattle.records.proofs.get as get

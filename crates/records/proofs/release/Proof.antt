@@ -2,24 +2,25 @@
 -- their equations put together are what the function ensures.
 use Rattle.walks.proofs.Kit.{Head, Ty, entry, spelled, Fits, _≡_, refl, ℕ, List, [], _∷_, length, set, URA, named, SProp, ent, emp, id⊢, via, fst∗, Lft, Share, GName, flft, Memory, Routine, Heap, Calls, Loops, WpFn, Atoms, Fun, factI, Given, ⋆, ‵, _$_, _∵_, !, qed, by, move, look, init, stop, hop, fld, from, load, addr, and-then, no-more, assigns, land, returns, enter, alloc1, alloc0, params1, pass1, pass0, free0, whole, sub, agg, look-in, FmC, Is, MutSlice, sliceVal, Room, Meets, ref-at, call-plain, call-mut, the-given, the-tables, known, framed, mut-closed, none, out, mut-exits, MutPost}
 use Rattle.rows.specs.declared.Row.{Row}
-use Rattle.rows.specs.declared.Ends.{Ends}
-use Rattle.rows.specs.Links.{unmade, unlinkedRows, unlinkedEnds, withFree}
+use Rattle.scans.specs.declared.Ends.{Ends}
+use Rattle.rows.specs.Links.{unmade, unlinkedRows, unlinkedEnds}
+use Rattle.scans.specs.Ends.{withFree}
 use Rattle.records.proofs.Types.{R, link, row, ends}
 use Rattle.records.proofs.unlink as unlink
 use Rattle.records.proofs.unlink.Symbol as unlink-def
 use Rattle.records.proofs.unlink.Met as unlink-thm
-use Rattle.rows.proofs.free_of as free-of
-use Rattle.rows.proofs.free_of.Symbol as free-of-def
-use Rattle.rows.proofs.free_of.Met as free-of-thm
+use Rattle.scans.proofs.free_of as free-of
+use Rattle.scans.proofs.free_of.Symbol as free-of-def
+use Rattle.scans.proofs.free_of.Met as free-of-thm
 use Rattle.rows.proofs.unmade_row as unmade-row
 use Rattle.rows.proofs.unmade_row.Symbol as unmade-row-def
 use Rattle.rows.proofs.unmade_row.Met as unmade-row-thm
 use Rattle.records.proofs.put as put
 use Rattle.records.proofs.put.Symbol as put-def
 use Rattle.records.proofs.put.Met as put-thm
-use Rattle.rows.proofs.with_free as with-free
-use Rattle.rows.proofs.with_free.Symbol as with-free-def
-use Rattle.rows.proofs.with_free.Met as with-free-thm
+use Rattle.scans.proofs.with_free as with-free
+use Rattle.scans.proofs.with_free.Symbol as with-free-def
+use Rattle.scans.proofs.with_free.Met as with-free-thm
 use Rattle.records.proofs.release.Key.{name}
 use Rattle.records.proofs.release as release
 use Rattle.records.proofs.release.Statement as stated
@@ -60,8 +61,8 @@ release-spec 𝓤 H 𝓜 𝓖 𝓡 =
     mut-closed 𝓤 H 𝓜 𝓖 𝓡 R (ends ∷ link ∷ []) ends code.env name code.function (code.unfolded 𝓤 H 𝓜 𝓡) (release.clauses 𝓤 H (𝓖 .A) (𝓜 .mem) (𝓡 .run)) (λ κ q γ b o xs a g room fit. via 𝓤 _ (fst∗ 𝓤 _ (emp 𝓤))
     (walk 𝓤 H (𝓖 .A) (the-given 𝓤 H 𝓜 𝓖 𝓡) (𝓜 .mem) (𝓡 .run) (the-tables 𝓤 H 𝓜 𝓖 𝓡 code.env .C) (the-tables 𝓤 H 𝓜 𝓖 𝓡 code.env .Λ) (framed 𝓤 H 𝓜 𝓖 𝓡 code.env) (entry written.table) (λ x is. ends .lawful 𝓤 H (𝓖 .A) (the-given 𝓤 H 𝓜 𝓖 𝓡) .typed x _ is .0) (λ x is. row .lawful 𝓤 H (𝓖 .A) (the-given 𝓤 H 𝓜 𝓖 𝓡) .typed x _ is .0)
     (known 𝓤 H 𝓜 𝓖 𝓡 unlink.signature (unlink.spec 𝓤 H (𝓖 .A) (𝓜 .mem) (𝓡 .run)) code.env unlink-def.name unlink-def.routine code.calls-records·unlink (unlink-thm.met 𝓤 H 𝓜 𝓖 𝓡))
-    (known 𝓤 H 𝓜 𝓖 𝓡 free-of.signature (free-of.spec 𝓤 H (𝓖 .A) (𝓜 .mem) (𝓡 .run)) code.env free-of-def.name free-of-def.routine code.calls-rows·free-of (free-of-thm.met 𝓤 H 𝓜 𝓖 𝓡))
+    (known 𝓤 H 𝓜 𝓖 𝓡 free-of.signature (free-of.spec 𝓤 H (𝓖 .A) (𝓜 .mem) (𝓡 .run)) code.env free-of-def.name free-of-def.routine code.calls-scans·free-of (free-of-thm.met 𝓤 H 𝓜 𝓖 𝓡))
     (known 𝓤 H 𝓜 𝓖 𝓡 unmade-row.signature (unmade-row.spec 𝓤 H (𝓖 .A) (𝓜 .mem) (𝓡 .run)) code.env unmade-row-def.name unmade-row-def.routine code.calls-rows·unmade-row (unmade-row-thm.met 𝓤 H 𝓜 𝓖 𝓡))
     (known 𝓤 H 𝓜 𝓖 𝓡 put.signature (put.spec 𝓤 H (𝓖 .A) (𝓜 .mem) (𝓡 .run)) code.env put-def.name put-def.routine code.calls-records·put (put-thm.met 𝓤 H 𝓜 𝓖 𝓡))
-    (known 𝓤 H 𝓜 𝓖 𝓡 with-free.signature (with-free.spec 𝓤 H (𝓖 .A) (𝓜 .mem) (𝓡 .run)) code.env with-free-def.name with-free-def.routine code.calls-rows·with-free (with-free-thm.met 𝓤 H 𝓜 𝓖 𝓡))
+    (known 𝓤 H 𝓜 𝓖 𝓡 with-free.signature (with-free.spec 𝓤 H (𝓖 .A) (𝓜 .mem) (𝓡 .run)) code.env with-free-def.name with-free-def.routine code.calls-scans·with-free (with-free-thm.met 𝓤 H 𝓜 𝓖 𝓡))
     κ q γ b o xs (a .0) (a .1 .0) room (fit .0) (fit .1 .0)))

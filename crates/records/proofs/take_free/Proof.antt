@@ -3,13 +3,14 @@
 use Rattle.walks.proofs.Kit.{Head, Ty, entry, spelled, Fits, _≡_, refl, ℕ, List, [], _∷_, length, getD, set, URA, named, SProp, ent, emp, id⊢, via, fst∗, Lft, Share, GName, flft, Memory, Routine, Heap, Calls, Loops, WpFn, Atoms, Fun, factI, Given, ⋆, ‵, _$_, _∵_, !, qed, by, move, look, init, stop, hop, fld, from, load, addr, and-then, no-more, assigns, land, returns, enter, alloc1, alloc0, params1, pass1, pass0, free0, whole, sub, agg, look-in, FmC, Is, MutSlice, sliceVal, Room, Meets, ref-at, call-plain, call-view, call-mut, the-given, the-tables, known, framed, mut-closed, none, out, mut-exits, MutPost}
 use Rattle.receiver.specs.declared.Part.{Part}
 use Rattle.rows.specs.declared.Row.{Row}
-use Rattle.rows.specs.declared.Ends.{Ends}
-use Rattle.rows.specs.declared.Key.{Key}
-use Rattle.rows.specs.Links.{blank, linkedRows, linkedEnds, withFree, madeRow}
+use Rattle.scans.specs.declared.Ends.{Ends}
+use Rattle.scans.specs.declared.Key.{Key}
+use Rattle.rows.specs.Links.{blank, linkedRows, madeRow}
+use Rattle.scans.specs.Ends.{linkedEnds, withFree}
 use Rattle.records.proofs.Types.{R, link, row, ends, key, part}
-use Rattle.rows.proofs.free_of as free-of
-use Rattle.rows.proofs.free_of.Symbol as free-of-def
-use Rattle.rows.proofs.free_of.Met as free-of-thm
+use Rattle.scans.proofs.free_of as free-of
+use Rattle.scans.proofs.free_of.Symbol as free-of-def
+use Rattle.scans.proofs.free_of.Met as free-of-thm
 use Rattle.records.proofs.get as get
 use Rattle.records.proofs.get.Symbol as get-def
 use Rattle.records.proofs.get.Met as get-thm
@@ -22,9 +23,9 @@ use Rattle.records.proofs.put.Met as put-thm
 use Rattle.rows.proofs.next_of as next-of
 use Rattle.rows.proofs.next_of.Symbol as next-of-def
 use Rattle.rows.proofs.next_of.Met as next-of-thm
-use Rattle.rows.proofs.with_free as with-free
-use Rattle.rows.proofs.with_free.Symbol as with-free-def
-use Rattle.rows.proofs.with_free.Met as with-free-thm
+use Rattle.scans.proofs.with_free as with-free
+use Rattle.scans.proofs.with_free.Symbol as with-free-def
+use Rattle.scans.proofs.with_free.Met as with-free-thm
 use Rattle.records.proofs.link_last as link-last
 use Rattle.records.proofs.link_last.Symbol as link-last-def
 use Rattle.records.proofs.link_last.Met as link-last-thm
@@ -73,11 +74,11 @@ unfolding code.routine
 take-free-spec 𝓤 H 𝓜 𝓖 𝓡 =
     mut-closed 𝓤 H 𝓜 𝓖 𝓡 R (ends ∷ key ∷ part ∷ []) ends code.env name code.function (code.unfolded 𝓤 H 𝓜 𝓡) (take-free.clauses 𝓤 H (𝓖 .A) (𝓜 .mem) (𝓡 .run)) (λ κ q γ b o xs a g room fit. via 𝓤 _ (fst∗ 𝓤 _ (emp 𝓤))
     (walk 𝓤 H (𝓖 .A) (the-given 𝓤 H 𝓜 𝓖 𝓡) (𝓜 .mem) (𝓡 .run) (the-tables 𝓤 H 𝓜 𝓖 𝓡 code.env .C) (the-tables 𝓤 H 𝓜 𝓖 𝓡 code.env .Λ) (framed 𝓤 H 𝓜 𝓖 𝓡 code.env) (entry written.table) (λ x is. row .lawful 𝓤 H (𝓖 .A) (the-given 𝓤 H 𝓜 𝓖 𝓡) .typed x _ is .0) (λ x is. ends .lawful 𝓤 H (𝓖 .A) (the-given 𝓤 H 𝓜 𝓖 𝓡) .typed x _ is .0) (λ x is. key .lawful 𝓤 H (𝓖 .A) (the-given 𝓤 H 𝓜 𝓖 𝓡) .typed x _ is .0) (λ x is. part .lawful 𝓤 H (𝓖 .A) (the-given 𝓤 H 𝓜 𝓖 𝓡) .typed x _ is .0)
-    (known 𝓤 H 𝓜 𝓖 𝓡 free-of.signature (free-of.spec 𝓤 H (𝓖 .A) (𝓜 .mem) (𝓡 .run)) code.env free-of-def.name free-of-def.routine code.calls-rows·free-of (free-of-thm.met 𝓤 H 𝓜 𝓖 𝓡))
+    (known 𝓤 H 𝓜 𝓖 𝓡 free-of.signature (free-of.spec 𝓤 H (𝓖 .A) (𝓜 .mem) (𝓡 .run)) code.env free-of-def.name free-of-def.routine code.calls-scans·free-of (free-of-thm.met 𝓤 H 𝓜 𝓖 𝓡))
     (known 𝓤 H 𝓜 𝓖 𝓡 get.signature (get.spec 𝓤 H (𝓖 .A) (𝓜 .mem) (𝓡 .run)) code.env get-def.name get-def.routine code.calls-records·get (get-thm.met 𝓤 H 𝓜 𝓖 𝓡))
     (known 𝓤 H 𝓜 𝓖 𝓡 made-row.signature (made-row.spec 𝓤 H (𝓖 .A) (𝓜 .mem) (𝓡 .run)) code.env made-row-def.name made-row-def.routine code.calls-rows·made-row (made-row-thm.met 𝓤 H 𝓜 𝓖 𝓡))
     (known 𝓤 H 𝓜 𝓖 𝓡 put.signature (put.spec 𝓤 H (𝓖 .A) (𝓜 .mem) (𝓡 .run)) code.env put-def.name put-def.routine code.calls-records·put (put-thm.met 𝓤 H 𝓜 𝓖 𝓡))
     (known 𝓤 H 𝓜 𝓖 𝓡 next-of.signature (next-of.spec 𝓤 H (𝓖 .A) (𝓜 .mem) (𝓡 .run)) code.env next-of-def.name next-of-def.routine code.calls-rows·next-of (next-of-thm.met 𝓤 H 𝓜 𝓖 𝓡))
-    (known 𝓤 H 𝓜 𝓖 𝓡 with-free.signature (with-free.spec 𝓤 H (𝓖 .A) (𝓜 .mem) (𝓡 .run)) code.env with-free-def.name with-free-def.routine code.calls-rows·with-free (with-free-thm.met 𝓤 H 𝓜 𝓖 𝓡))
+    (known 𝓤 H 𝓜 𝓖 𝓡 with-free.signature (with-free.spec 𝓤 H (𝓖 .A) (𝓜 .mem) (𝓡 .run)) code.env with-free-def.name with-free-def.routine code.calls-scans·with-free (with-free-thm.met 𝓤 H 𝓜 𝓖 𝓡))
     (known 𝓤 H 𝓜 𝓖 𝓡 link-last.signature (link-last.spec 𝓤 H (𝓖 .A) (𝓜 .mem) (𝓡 .run)) code.env link-last-def.name link-last-def.routine code.calls-records·link-last (link-last-thm.met 𝓤 H 𝓜 𝓖 𝓡))
     κ q γ b o xs (a .0) (a .1 .0) (a .1 .1 .0) room (fit .0) (fit .1 .0) (fit .1 .1 .0)))

@@ -2,8 +2,9 @@
 -- their equations put together are what the function ensures.
 use Rattle.walks.proofs.Kit.{Head, Ty, entry, spelled, Fits, _≡_, refl, ℕ, List, [], _∷_, length, URA, named, SProp, ent, emp, id⊢, via, fst∗, Lft, Share, GName, flft, Memory, Routine, Heap, Calls, Loops, WpFn, Atoms, Fun, factI, Given, ⋆, ‵, _$_, _∵_, !, qed, by, move, look, init, stop, hop, fld, from, load, addr, and-then, no-more, assigns, land, returns, enter, alloc1, alloc0, params1, pass1, pass0, free0, whole, sub, agg, look-in, FmC, Is, MutSlice, sliceVal, Room, Meets, ref-at, call-mut, the-given, the-tables, known, framed, mut-closed, out, mut-exits, MutPost}
 use Rattle.rows.specs.declared.Row.{Row}
-use Rattle.rows.specs.declared.Ends.{Ends}
-use Rattle.rows.specs.Links.{unlinkedRows, unlinkedEnds, linkedRows, linkedEnds}
+use Rattle.scans.specs.declared.Ends.{Ends}
+use Rattle.rows.specs.Links.{unlinkedRows, unlinkedEnds, linkedRows}
+use Rattle.scans.specs.Ends.{linkedEnds}
 use Rattle.records.proofs.Types.{R, link, row, ends}
 use Rattle.records.proofs.unlink as unlink
 use Rattle.records.proofs.unlink.Symbol as unlink-def

@@ -2,8 +2,9 @@
 -- their equations put together are what the function ensures.
 use Rattle.walks.proofs.Kit.{Head, Ty, entry, spelled, Fits, _≡_, refl, ℕ, List, [], _∷_, length, getD, URA, named, SProp, ent, emp, id⊢, via, fst∗, Lft, Share, GName, flft, Memory, Routine, Heap, Calls, Loops, WpFn, Atoms, Fun, factI, Given, ⋆, ‵, _$_, _∵_, !, qed, by, move, look, init, store, stop, hop, fld, from, load, addr, and-then, no-more, assigns, land, returns, enter, alloc1, alloc0, params1, pass1, pass0, free0, whole, sub, agg, look-in, FmC, Is, MutSlice, sliceVal, Room, Meets, ref-at, call-plain, call-view, call-mut, the-given, the-tables, known, framed, mut-closed, none, out, mut-exits, MutPost}
 use Rattle.rows.specs.declared.Row.{Row}
-use Rattle.rows.specs.declared.Ends.{Ends}
-use Rattle.rows.specs.Links.{blank, nexted, preved, outEnds}
+use Rattle.scans.specs.declared.Ends.{Ends}
+use Rattle.rows.specs.Links.{blank, nexted, preved}
+use Rattle.scans.specs.Ends.{outEnds}
 use Rattle.records.proofs.Types.{R, link, row, ends}
 use Rattle.records.proofs.get as get
 use Rattle.records.proofs.get.Symbol as get-def
@@ -20,9 +21,9 @@ use Rattle.records.proofs.set_next.Met as set-next-thm
 use Rattle.records.proofs.set_prev as set-prev
 use Rattle.records.proofs.set_prev.Symbol as set-prev-def
 use Rattle.records.proofs.set_prev.Met as set-prev-thm
-use Rattle.rows.proofs.out_ends as out-ends
-use Rattle.rows.proofs.out_ends.Symbol as out-ends-def
-use Rattle.rows.proofs.out_ends.Met as out-ends-thm
+use Rattle.scans.proofs.out_ends as out-ends
+use Rattle.scans.proofs.out_ends.Symbol as out-ends-def
+use Rattle.scans.proofs.out_ends.Met as out-ends-thm
 use Rattle.records.proofs.unlink.Key.{name}
 use Rattle.records.proofs.unlink as unlink
 use Rattle.records.proofs.unlink.Statement as stated
@@ -71,5 +72,5 @@ unlink-spec 𝓤 H 𝓜 𝓖 𝓡 =
     (known 𝓤 H 𝓜 𝓖 𝓡 next-of.signature (next-of.spec 𝓤 H (𝓖 .A) (𝓜 .mem) (𝓡 .run)) code.env next-of-def.name next-of-def.routine code.calls-rows·next-of (next-of-thm.met 𝓤 H 𝓜 𝓖 𝓡))
     (known 𝓤 H 𝓜 𝓖 𝓡 set-next.signature (set-next.spec 𝓤 H (𝓖 .A) (𝓜 .mem) (𝓡 .run)) code.env set-next-def.name set-next-def.routine code.calls-records·set-next (set-next-thm.met 𝓤 H 𝓜 𝓖 𝓡))
     (known 𝓤 H 𝓜 𝓖 𝓡 set-prev.signature (set-prev.spec 𝓤 H (𝓖 .A) (𝓜 .mem) (𝓡 .run)) code.env set-prev-def.name set-prev-def.routine code.calls-records·set-prev (set-prev-thm.met 𝓤 H 𝓜 𝓖 𝓡))
-    (known 𝓤 H 𝓜 𝓖 𝓡 out-ends.signature (out-ends.spec 𝓤 H (𝓖 .A) (𝓜 .mem) (𝓡 .run)) code.env out-ends-def.name out-ends-def.routine code.calls-rows·out-ends (out-ends-thm.met 𝓤 H 𝓜 𝓖 𝓡))
+    (known 𝓤 H 𝓜 𝓖 𝓡 out-ends.signature (out-ends.spec 𝓤 H (𝓖 .A) (𝓜 .mem) (𝓡 .run)) code.env out-ends-def.name out-ends-def.routine code.calls-scans·out-ends (out-ends-thm.met 𝓤 H 𝓜 𝓖 𝓡))
     κ q γ b o xs (a .0) (a .1 .0) room (fit .0) (fit .1 .0)))

@@ -4,7 +4,7 @@ use Rattle.replies.proofs.put_keyed.Statement.{statement}
 use Rattle.replies.proofs.put_keyed.Tie as tie
 use Rattle.replies.proofs.put_keyed.Reads as reads
 use Rattle.replies.proofs.put_keyed.Lts as lts
-use Rattle.flat.proofs.key_word.Reads as key-word-reads
+use Rattle.packing.proofs.key_word.Reads as key-word-reads
 
 key-word-requires : tie.Need-key-word-requires
 key-word-requires c κs = search needs

@@ -3,7 +3,7 @@
 use Rattle.walks.proofs.Kit.{Head, Ty, entry, spelled, Fits, _≡_, refl, ℕ, List, [], _∷_, length, URA, named, SProp, ent, emp, id⊢, via, fst∗, Lft, Share, GName, flft, Memory, Routine, Heap, Calls, Loops, WpFn, Atoms, Fun, factI, Given, ⋆, ‵, _$_, _∵_, !, qed, by, move, look, init, store, stop, fld, from, load, of-opd, and-then, no-more, assigns, land, returns, returns-within, enter, alloc1, alloc0, params1, pass1, pass0, free0, whole, sub, look-in, FmC, Is, ShrSlice, sliceVal, Room, Meets, ref-at, call-plain, call-shared, guards, the-given, the-tables, known, framed, shr-closed, truth, out, out-room, shr-exits, ShrPost}
 use mathlib.Core.Bool.{true, false, not}
 use Rattle.rows.specs.declared.Row.{Row}
-use Rattle.rows.specs.declared.Ends.{Ends}
+use Rattle.scans.specs.declared.Ends.{Ends}
 use lib.ListN.{replicate}
 use Rattle.rows.specs.Read.{Looked}
 use Rattle.turns.specs.Turn.{startOf, question8}

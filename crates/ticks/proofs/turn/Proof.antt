@@ -12,7 +12,7 @@ use prog.Wp as Wp
 use Rattle.table.specs.Rows.{Watch}
 use Rattle.receiver.specs.declared.Part.{Part}
 use Rattle.rows.specs.declared.Row.{Row}
-use Rattle.rows.specs.declared.Ends.{Ends}
+use Rattle.scans.specs.declared.Ends.{Ends}
 use Rattle.rows.specs.Links.{blank}
 use Rattle.rows.specs.Read.{form, endsOf, endsIs, watchIs}
 use Rattle.turns.specs.Turn.{turnOn}

@@ -2,10 +2,10 @@
 -- their equations put together are what the function ensures.
 use Rattle.walks.proofs.Kit.{Head, Ty, entry, spelled, Fits, _≡_, refl, ℕ, List, [], _∷_, length, getD, URA, vptr, SProp, ent, emp, id⊢, via, snd∗, Lft, Share, GName, Memory, Routine, Heap, Calls, Loops, WpFn, Atoms, Fun, factI, Given, ⋆, _$_, _∵_, !, qed, by, move, look, init, stop, hop, fld, from, load, addr, of-opd, and-then, no-more, assigns, land, returns, enter, alloc1, alloc0, params1, pass1, pass0, free0, whole, sub, agg, look-in, FmC, Is, u32, Array, sliceVal, Room, Meets, ref-at, thin-at, call-view, call-ref, the-given, the-tables, known, framed, out, Held, three-exits, ThreePost, three-closed}
 use Rattle.rows.specs.declared.Row.{Row}
-use Rattle.rows.specs.declared.Key.{Key}
+use Rattle.scans.specs.declared.Key.{Key}
 use Rattle.rows.specs.Read.{Looked, endsIs, endsOf}
 use Rattle.rows.specs.Links.{blank}
-use Rattle.rows.specs.Search.{atOf}
+use Rattle.scans.specs.Scan.{atOf}
 use Rattle.records.proofs.Types.{R, index, row, ends, key, part, looked}
 use Rattle.watch.proofs.Types.{answer-datum}
 use Rattle.moves.specs.Moves.{checkedAs}

@@ -2,17 +2,17 @@
 -- their equations put together are what the function ensures.
 use Rattle.walks.proofs.Kit.{Head, Ty, entry, spelled, Fits, _≡_, refl, sym, _∙_, ℕ, List, [], _∷_, length, getD, URA, named, SProp, ent, emp, id⊢, via, fst∗, Lft, Share, GName, flft, Memory, Routine, Heap, Calls, Loops, WpFn, Atoms, Fun, factI, Given, ⋆, ‵, _$_, _∵_, !, qed, by, move, look, init, stop, from, load, of-opd, and-then, no-more, assigns, land, returns, returns-within, enter, alloc1, alloc0, params1, pass1, pass0, free0, FmC, Is, ShrSlice, sliceVal, Room, Meets, ref-at, call-plain, call-shared, guards, the-given, the-tables, known, framed, shr-closed, truth, out, out-room, shr-exits, ShrPost}
 use Rattle.rows.specs.declared.Row.{Row}
-use Rattle.rows.specs.declared.Look.{Look}
+use Rattle.scans.specs.declared.Look.{Look}
 use Rattle.rows.specs.Links.{blank}
-use Rattle.rows.specs.Search.{isNo, atOf, numberOf}
+use Rattle.scans.specs.Scan.{isNo, atOf, numberOf}
 use Rattle.records.proofs.Types.{R, row, part, looked}
 use Rattle.watch.proofs.Types.{answer-datum}
 use Rattle.moves.specs.Answers.{saying, checkAnswer}
 use Rattle.moves.proofs.Entries.{check-none, check-kept}
 use Rattle.moves.specs.declared.Word.the-variants as Wd
-use Rattle.rows.proofs.is_no as is-no
-use Rattle.rows.proofs.is_no.Symbol as is-no-def
-use Rattle.rows.proofs.is_no.Met as is-no-thm
+use Rattle.scans.proofs.is_no as is-no
+use Rattle.scans.proofs.is_no.Symbol as is-no-def
+use Rattle.scans.proofs.is_no.Met as is-no-thm
 use Rattle.moves.proofs.no_to as no-to
 use Rattle.moves.proofs.no_to.Symbol as no-to-def
 use Rattle.moves.proofs.no_to.Met as no-to-thm
@@ -61,7 +61,7 @@ unfolding code.routine
 check-row-spec 𝓤 H 𝓜 𝓖 𝓡 =
     shr-closed 𝓤 H 𝓜 𝓖 𝓡 R (looked ∷ []) answer-datum code.env name code.function (code.unfolded 𝓤 H 𝓜 𝓡) (check-row.clauses 𝓤 H (𝓖 .A) (𝓜 .mem) (𝓡 .run)) (λ κ q γ b o xs a g room fit. via 𝓤 _ (fst∗ 𝓤 _ (emp 𝓤))
     (walk 𝓤 H (𝓖 .A) (the-given 𝓤 H 𝓜 𝓖 𝓡) (𝓜 .mem) (𝓡 .run) (the-tables 𝓤 H 𝓜 𝓖 𝓡 code.env .C) (the-tables 𝓤 H 𝓜 𝓖 𝓡 code.env .Λ) (framed 𝓤 H 𝓜 𝓖 𝓡 code.env) (entry written.table) (λ x is. answer-datum .lawful 𝓤 H (𝓖 .A) (the-given 𝓤 H 𝓜 𝓖 𝓡) .typed x _ is .0) (λ x is. row .lawful 𝓤 H (𝓖 .A) (the-given 𝓤 H 𝓜 𝓖 𝓡) .typed x _ is .0) (λ x is. looked .lawful 𝓤 H (𝓖 .A) (the-given 𝓤 H 𝓜 𝓖 𝓡) .typed x _ is .0)
-    (known 𝓤 H 𝓜 𝓖 𝓡 is-no.signature (is-no.spec 𝓤 H (𝓖 .A) (𝓜 .mem) (𝓡 .run)) code.env is-no-def.name is-no-def.routine code.calls-rows·is-no (is-no-thm.met 𝓤 H 𝓜 𝓖 𝓡))
+    (known 𝓤 H 𝓜 𝓖 𝓡 is-no.signature (is-no.spec 𝓤 H (𝓖 .A) (𝓜 .mem) (𝓡 .run)) code.env is-no-def.name is-no-def.routine code.calls-scans·is-no (is-no-thm.met 𝓤 H 𝓜 𝓖 𝓡))
     (known 𝓤 H 𝓜 𝓖 𝓡 no-to.signature (no-to.spec 𝓤 H (𝓖 .A) (𝓜 .mem) (𝓡 .run)) code.env no-to-def.name no-to-def.routine code.calls-moves·no-to (no-to-thm.met 𝓤 H 𝓜 𝓖 𝓡))
     (known 𝓤 H 𝓜 𝓖 𝓡 found.signature (found.spec 𝓤 H (𝓖 .A) (𝓜 .mem) (𝓡 .run)) code.env found-def.name found-def.routine code.calls-records·found (found-thm.met 𝓤 H 𝓜 𝓖 𝓡))
     (known 𝓤 H 𝓜 𝓖 𝓡 check-answer.signature (check-answer.spec 𝓤 H (𝓖 .A) (𝓜 .mem) (𝓡 .run)) code.env check-answer-def.name check-answer-def.routine code.calls-moves·check-answer (check-answer-thm.met 𝓤 H 𝓜 𝓖 𝓡))

@@ -3,41 +3,25 @@
 use Rattle.walks.proofs.Kit.{Head, Ty, entry, spelled, Fits, _≡_, refl, sym, _∙_, ap, ℕ, List, [], _∷_, length, getD, URA, named, SProp, ent, emp, id⊢, Lft, Share, GName, flft, Memory, Routine, Heap, Calls, Loops, WpFn, Atoms, Fun, factI, Given, ⋆, ‵, _$_, _∵_, !, qed, by, move, look, init, store, stop, hop, fld, from, load, addr, of-opd, and-then, no-more, assigns, land, returns, returns-within, enter, alloc1, alloc0, params1, pass1, pass0, free0, whole, sub, agg, look-in, FmC, Is, MutSlice, sliceVal, Room, Meets, needs, ref-at, call-plain, call-view, call-mut, guards, the-given, the-tables, known, framed, mut-closed, truth, out, out-room, mut-exits, MutPost}
 use mathlib.Core.Bool.{true, false}
 use Rattle.rows.specs.declared.Row.{Row}
-use Rattle.rows.specs.declared.Ends.{Ends}
-use Rattle.rows.specs.declared.Key.{Key}
-use Rattle.rows.specs.declared.Look.{Look}
 use Rattle.rows.specs.Links.{blank, seatOf, seatedRows}
-use Rattle.rows.specs.Search.{atOf, isUnfit, numberOf}
 use Rattle.records.proofs.Types.{R, row, ends, key, part, seat, looked}
 use Rattle.watch.proofs.Types.{move-datum, claimed-datum, claiming-datum}
 use Rattle.sites.specs.declared.Claimed.{Claimed}
-use Rattle.receiver.specs.Heard.{siteFits, claimed}
-use Rattle.receiver.specs.Answers.{claimingIs}
-use Rattle.moves.specs.Answers.{saying, isRefused, claimPart}
+use Rattle.heard.specs.Heard.{siteFits, claimed}
+use Rattle.heard.specs.Answers.{claimingIs}
+use Rattle.moves.specs.Answers.{saying}
 use Rattle.moves.specs.Moves.{staying, seatMove, by-look}
 use Rattle.moves.proofs.Entries.{claim-left, claim-kept}
 use Rattle.moves.specs.declared.Word.the-variants as Wd
-use Rattle.rows.proofs.unfit as unfit
-use Rattle.rows.proofs.unfit.Symbol as unfit-def
-use Rattle.rows.proofs.unfit.Met as unfit-thm
 use Rattle.moves.proofs.unfit_move as unfit-move
 use Rattle.moves.proofs.unfit_move.Symbol as unfit-move-def
 use Rattle.moves.proofs.unfit_move.Met as unfit-move-thm
 use Rattle.records.proofs.found as found
 use Rattle.records.proofs.found.Symbol as found-def
 use Rattle.records.proofs.found.Met as found-thm
-use Rattle.moves.proofs.claiming as claiming
-use Rattle.moves.proofs.claiming.Symbol as claiming-def
-use Rattle.moves.proofs.claiming.Met as claiming-thm
-use Rattle.moves.proofs.is_refused as is-refused
-use Rattle.moves.proofs.is_refused.Symbol as is-refused-def
-use Rattle.moves.proofs.is_refused.Met as is-refused-thm
 use Rattle.moves.proofs.outside_move as outside-move
 use Rattle.moves.proofs.outside_move.Symbol as outside-move-def
 use Rattle.moves.proofs.outside_move.Met as outside-move-thm
-use Rattle.moves.proofs.claim_part as claim-part
-use Rattle.moves.proofs.claim_part.Symbol as claim-part-def
-use Rattle.moves.proofs.claim_part.Met as claim-part-thm
 use Rattle.records.proofs.insert_active as insert-active
 use Rattle.records.proofs.insert_active.Symbol as insert-active-def
 use Rattle.records.proofs.insert_active.Met as insert-active-thm
@@ -49,6 +33,23 @@ use Rattle.watch.proofs.claim_row as claim-row
 use Rattle.watch.proofs.claim_row.Statement as stated
 use Rattle.watch.proofs.claim_row.Code as code
 use Rattle.watch.proofs.claim_row.Code.Mir as written
+use Rattle.scans.specs.declared.Ends.{Ends}
+use Rattle.scans.specs.declared.Key.{Key}
+use Rattle.scans.specs.declared.Look.{Look}
+use Rattle.scans.specs.Scan.{atOf, isUnfit, numberOf}
+use Rattle.scans.proofs.unfit as unfit
+use Rattle.scans.proofs.unfit.Symbol as unfit-def
+use Rattle.scans.proofs.unfit.Met as unfit-thm
+use Rattle.bodies.specs.Bodies.{isRefused, claimPart}
+use Rattle.bodies.proofs.claiming as claiming
+use Rattle.bodies.proofs.claiming.Symbol as claiming-def
+use Rattle.bodies.proofs.claiming.Met as claiming-thm
+use Rattle.bodies.proofs.is_refused as is-refused
+use Rattle.bodies.proofs.is_refused.Symbol as is-refused-def
+use Rattle.bodies.proofs.is_refused.Met as is-refused-thm
+use Rattle.bodies.proofs.claim_part as claim-part
+use Rattle.bodies.proofs.claim_part.Symbol as claim-part-def
+use Rattle.bodies.proofs.claim_part.Met as claim-part-thm
 
 module _ {M : Type 1} (𝓤 : URA M) (H : Heap 𝓤) (A : Atoms 𝓤) (W : Given 𝓤 H A) (mem : Memory → SProp 𝓤) (run : Routine → Fun 𝓤) (C : Calls 𝓤 H) (Λ : Loops 𝓤 H) (fm : FmC 𝓤 H (W .laws) C)
     (σ : Head → Ty) (fits-move-datum : Fits σ move-datum) (fits-row : Fits σ row) (fits-claiming-datum : Fits σ claiming-datum) (fits-part : Fits σ part) (fits-seat : Fits σ seat) (fits-ends : Fits σ ends) (fits-looked : Fits σ looked) (fits-key : Fits σ key) (fits-claimed-datum : Fits σ claimed-datum)
@@ -103,13 +104,13 @@ unfolding code.routine
 claim-row-spec 𝓤 H 𝓜 𝓖 𝓡 =
     mut-closed 𝓤 H 𝓜 𝓖 𝓡 R (ends ∷ looked ∷ key ∷ claimed-datum ∷ []) move-datum code.env name code.function (code.unfolded 𝓤 H 𝓜 𝓡) (claim-row.clauses 𝓤 H (𝓖 .A) (𝓜 .mem) (𝓡 .run)) (λ κ q γ b o xs a g room fit. needs 𝓤 ((isUnfit (a .1 .0) ≡ false → siteFits (getD xs (atOf (a .1 .0)) blank .part .heard .site) ≡ true)) _
     (walk 𝓤 H (𝓖 .A) (the-given 𝓤 H 𝓜 𝓖 𝓡) (𝓜 .mem) (𝓡 .run) (the-tables 𝓤 H 𝓜 𝓖 𝓡 code.env .C) (the-tables 𝓤 H 𝓜 𝓖 𝓡 code.env .Λ) (framed 𝓤 H 𝓜 𝓖 𝓡 code.env) (entry written.table) (λ x is. move-datum .lawful 𝓤 H (𝓖 .A) (the-given 𝓤 H 𝓜 𝓖 𝓡) .typed x _ is .0) (λ x is. row .lawful 𝓤 H (𝓖 .A) (the-given 𝓤 H 𝓜 𝓖 𝓡) .typed x _ is .0) (λ x is. claiming-datum .lawful 𝓤 H (𝓖 .A) (the-given 𝓤 H 𝓜 𝓖 𝓡) .typed x _ is .0) (λ x is. part .lawful 𝓤 H (𝓖 .A) (the-given 𝓤 H 𝓜 𝓖 𝓡) .typed x _ is .0) (λ x is. seat .lawful 𝓤 H (𝓖 .A) (the-given 𝓤 H 𝓜 𝓖 𝓡) .typed x _ is .0) (λ x is. ends .lawful 𝓤 H (𝓖 .A) (the-given 𝓤 H 𝓜 𝓖 𝓡) .typed x _ is .0) (λ x is. looked .lawful 𝓤 H (𝓖 .A) (the-given 𝓤 H 𝓜 𝓖 𝓡) .typed x _ is .0) (λ x is. key .lawful 𝓤 H (𝓖 .A) (the-given 𝓤 H 𝓜 𝓖 𝓡) .typed x _ is .0) (λ x is. claimed-datum .lawful 𝓤 H (𝓖 .A) (the-given 𝓤 H 𝓜 𝓖 𝓡) .typed x _ is .0)
-    (known 𝓤 H 𝓜 𝓖 𝓡 unfit.signature (unfit.spec 𝓤 H (𝓖 .A) (𝓜 .mem) (𝓡 .run)) code.env unfit-def.name unfit-def.routine code.calls-rows·unfit (unfit-thm.met 𝓤 H 𝓜 𝓖 𝓡))
+    (known 𝓤 H 𝓜 𝓖 𝓡 unfit.signature (unfit.spec 𝓤 H (𝓖 .A) (𝓜 .mem) (𝓡 .run)) code.env unfit-def.name unfit-def.routine code.calls-scans·unfit (unfit-thm.met 𝓤 H 𝓜 𝓖 𝓡))
     (known 𝓤 H 𝓜 𝓖 𝓡 unfit-move.signature (unfit-move.spec 𝓤 H (𝓖 .A) (𝓜 .mem) (𝓡 .run)) code.env unfit-move-def.name unfit-move-def.routine code.calls-moves·unfit-move (unfit-move-thm.met 𝓤 H 𝓜 𝓖 𝓡))
     (known 𝓤 H 𝓜 𝓖 𝓡 found.signature (found.spec 𝓤 H (𝓖 .A) (𝓜 .mem) (𝓡 .run)) code.env found-def.name found-def.routine code.calls-records·found (found-thm.met 𝓤 H 𝓜 𝓖 𝓡))
-    (known 𝓤 H 𝓜 𝓖 𝓡 claiming.signature (claiming.spec 𝓤 H (𝓖 .A) (𝓜 .mem) (𝓡 .run)) code.env claiming-def.name claiming-def.routine code.calls-moves·claiming (claiming-thm.met 𝓤 H 𝓜 𝓖 𝓡))
-    (known 𝓤 H 𝓜 𝓖 𝓡 is-refused.signature (is-refused.spec 𝓤 H (𝓖 .A) (𝓜 .mem) (𝓡 .run)) code.env is-refused-def.name is-refused-def.routine code.calls-moves·is-refused (is-refused-thm.met 𝓤 H 𝓜 𝓖 𝓡))
+    (known 𝓤 H 𝓜 𝓖 𝓡 claiming.signature (claiming.spec 𝓤 H (𝓖 .A) (𝓜 .mem) (𝓡 .run)) code.env claiming-def.name claiming-def.routine code.calls-bodies·claiming (claiming-thm.met 𝓤 H 𝓜 𝓖 𝓡))
+    (known 𝓤 H 𝓜 𝓖 𝓡 is-refused.signature (is-refused.spec 𝓤 H (𝓖 .A) (𝓜 .mem) (𝓡 .run)) code.env is-refused-def.name is-refused-def.routine code.calls-bodies·is-refused (is-refused-thm.met 𝓤 H 𝓜 𝓖 𝓡))
     (known 𝓤 H 𝓜 𝓖 𝓡 outside-move.signature (outside-move.spec 𝓤 H (𝓖 .A) (𝓜 .mem) (𝓡 .run)) code.env outside-move-def.name outside-move-def.routine code.calls-moves·outside-move (outside-move-thm.met 𝓤 H 𝓜 𝓖 𝓡))
-    (known 𝓤 H 𝓜 𝓖 𝓡 claim-part.signature (claim-part.spec 𝓤 H (𝓖 .A) (𝓜 .mem) (𝓡 .run)) code.env claim-part-def.name claim-part-def.routine code.calls-moves·claim-part (claim-part-thm.met 𝓤 H 𝓜 𝓖 𝓡))
+    (known 𝓤 H 𝓜 𝓖 𝓡 claim-part.signature (claim-part.spec 𝓤 H (𝓖 .A) (𝓜 .mem) (𝓡 .run)) code.env claim-part-def.name claim-part-def.routine code.calls-bodies·claim-part (claim-part-thm.met 𝓤 H 𝓜 𝓖 𝓡))
     (known 𝓤 H 𝓜 𝓖 𝓡 insert-active.signature (insert-active.spec 𝓤 H (𝓖 .A) (𝓜 .mem) (𝓡 .run)) code.env insert-active-def.name insert-active-def.routine code.calls-records·insert-active (insert-active-thm.met 𝓤 H 𝓜 𝓖 𝓡))
     (known 𝓤 H 𝓜 𝓖 𝓡 seat-move.signature (seat-move.spec 𝓤 H (𝓖 .A) (𝓜 .mem) (𝓡 .run)) code.env seat-move-def.name seat-move-def.routine code.calls-moves·seat-move (seat-move-thm.met 𝓤 H 𝓜 𝓖 𝓡))
     κ q γ b o xs (a .0) (a .1 .0) (a .1 .1 .0) (a .1 .1 .1 .0) room (fit .0) (fit .1 .0) (fit .1 .1 .0) (fit .1 .1 .1 .0)))

@@ -6,7 +6,8 @@ use Rattle.rows.specs.Read.{Looked, endsIs, endsOf}
 use Rattle.records.proofs.Types.{R, index, ends, key, looked}
 use Rattle.watch.proofs.Types.{answer-datum, move-datum}
 use Rattle.moves.specs.Answers.{noKey}
-use Rattle.moves.specs.Moves.{emptiedAt, removeMove, removedRows, oldestLook}
+use Rattle.bodies.specs.Bodies.{emptiedAt}
+use Rattle.moves.specs.Moves.{removeMove, removedRows, oldestLook}
 use Rattle.moves.proofs.Entries.{drop-room, drop-so}
 use Rattle.moves.proofs.ends_of as ends-of
 use Rattle.moves.proofs.ends_of.Symbol as ends-of-def

@@ -2,22 +2,22 @@
 -- their equations put together are what the function ensures.
 use Rattle.walks.proofs.Kit.{Head, Ty, entry, spelled, Fits, _≡_, refl, _∙_, ap, ℕ, List, [], _∷_, length, getD, URA, named, SProp, ent, emp, id⊢, via, fst∗, Lft, Share, GName, flft, Memory, Routine, Heap, Calls, Loops, WpFn, Atoms, Fun, factI, Given, ⋆, ‵, _$_, _∵_, !, qed, by, move, look, init, stop, from, load, and-then, no-more, land, returns, enter, alloc1, alloc0, params1, pass1, pass0, free0, FmC, Is, ShrSlice, sliceVal, Room, Meets, ref-at, call-plain, call-shared, the-given, the-tables, known, framed, shr-closed, out, shr-exits, ShrPost}
 use Rattle.rows.specs.declared.Row.{Row}
-use Rattle.rows.specs.declared.Look.{Look}
+use Rattle.scans.specs.declared.Look.{Look}
 use Rattle.rows.specs.Links.{blank}
-use Rattle.rows.specs.Search.{atOf}
+use Rattle.scans.specs.Scan.{atOf}
 use Rattle.records.proofs.Types.{R, index, row, part, looked}
-use Rattle.moves.specs.Moves.{dueLook}
 use Rattle.records.proofs.found as found
 use Rattle.records.proofs.found.Symbol as found-def
 use Rattle.records.proofs.found.Met as found-thm
-use Rattle.moves.proofs.due as due
-use Rattle.moves.proofs.due.Symbol as due-def
-use Rattle.moves.proofs.due.Met as due-thm
 use Rattle.watch.proofs.due_at.Key.{name}
 use Rattle.watch.proofs.due_at as due-at
 use Rattle.watch.proofs.due_at.Statement as stated
 use Rattle.watch.proofs.due_at.Code as code
 use Rattle.watch.proofs.due_at.Code.Mir as written
+use Rattle.bodies.specs.Bodies.{dueLook}
+use Rattle.bodies.proofs.due as due
+use Rattle.bodies.proofs.due.Symbol as due-def
+use Rattle.bodies.proofs.due.Met as due-thm
 
 module _ {M : Type 1} (𝓤 : URA M) (H : Heap 𝓤) (A : Atoms 𝓤) (W : Given 𝓤 H A) (mem : Memory → SProp 𝓤) (run : Routine → Fun 𝓤) (C : Calls 𝓤 H) (Λ : Loops 𝓤 H) (fm : FmC 𝓤 H (W .laws) C)
     (σ : Head → Ty) (fits-row : Fits σ row) (fits-looked : Fits σ looked)
@@ -43,5 +43,5 @@ due-at-spec 𝓤 H 𝓜 𝓖 𝓡 =
     shr-closed 𝓤 H 𝓜 𝓖 𝓡 R (looked ∷ index ∷ []) looked code.env name code.function (code.unfolded 𝓤 H 𝓜 𝓡) (due-at.clauses 𝓤 H (𝓖 .A) (𝓜 .mem) (𝓡 .run)) (λ κ q γ b o xs a g room fit. via 𝓤 _ (fst∗ 𝓤 _ (emp 𝓤))
     (walk 𝓤 H (𝓖 .A) (the-given 𝓤 H 𝓜 𝓖 𝓡) (𝓜 .mem) (𝓡 .run) (the-tables 𝓤 H 𝓜 𝓖 𝓡 code.env .C) (the-tables 𝓤 H 𝓜 𝓖 𝓡 code.env .Λ) (framed 𝓤 H 𝓜 𝓖 𝓡 code.env) (entry written.table) (λ x is. row .lawful 𝓤 H (𝓖 .A) (the-given 𝓤 H 𝓜 𝓖 𝓡) .typed x _ is .0) (λ x is. looked .lawful 𝓤 H (𝓖 .A) (the-given 𝓤 H 𝓜 𝓖 𝓡) .typed x _ is .0)
     (known 𝓤 H 𝓜 𝓖 𝓡 found.signature (found.spec 𝓤 H (𝓖 .A) (𝓜 .mem) (𝓡 .run)) code.env found-def.name found-def.routine code.calls-records·found (found-thm.met 𝓤 H 𝓜 𝓖 𝓡))
-    (known 𝓤 H 𝓜 𝓖 𝓡 due.signature (due.spec 𝓤 H (𝓖 .A) (𝓜 .mem) (𝓡 .run)) code.env due-def.name due-def.routine code.calls-moves·due (due-thm.met 𝓤 H 𝓜 𝓖 𝓡))
+    (known 𝓤 H 𝓜 𝓖 𝓡 due.signature (due.spec 𝓤 H (𝓖 .A) (𝓜 .mem) (𝓡 .run)) code.env due-def.name due-def.routine code.calls-bodies·due (due-thm.met 𝓤 H 𝓜 𝓖 𝓡))
     κ q γ b o xs (a .0) (a .1 .0) room (fit .0) (fit .1 .0)))

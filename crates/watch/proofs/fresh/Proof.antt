@@ -5,7 +5,8 @@ use mathlib.Core.Bool.{not}
 use borrow.Author.Tests.{not-true, not-false}
 use Rattle.rows.specs.declared.Row.{Row}
 use Rattle.rows.specs.Read.{endsIs, endsOf}
-use Rattle.rows.specs.Links.{freshFrom, freshEnds}
+use Rattle.rows.specs.Links.{freshFrom}
+use Rattle.scans.specs.Ends.{freshEnds}
 use Rattle.rows.specs.Search.{sizesOf}
 use Rattle.records.proofs.Types.{R, index, ends}
 use Rattle.watch.proofs.Types.{answer-datum}
@@ -17,21 +18,18 @@ use Rattle.moves.specs.declared.Word.the-variants as Wd
 use Rattle.rows.proofs.sizes_fit as sizes-fit
 use Rattle.rows.proofs.sizes_fit.Symbol as sizes-fit-def
 use Rattle.rows.proofs.sizes_fit.Met as sizes-fit-thm
-use Rattle.rows.proofs.negated as negated
-use Rattle.rows.proofs.negated.Symbol as negated-def
-use Rattle.rows.proofs.negated.Met as negated-thm
+use Rattle.scans.proofs.negated as negated
+use Rattle.scans.proofs.negated.Symbol as negated-def
+use Rattle.scans.proofs.negated.Met as negated-thm
 use Rattle.moves.proofs.no_first as no-first
 use Rattle.moves.proofs.no_first.Symbol as no-first-def
 use Rattle.moves.proofs.no_first.Met as no-first-thm
 use Rattle.records.proofs.fresh_rows as fresh-rows
 use Rattle.records.proofs.fresh_rows.Symbol as fresh-rows-def
 use Rattle.records.proofs.fresh_rows.Met as fresh-rows-thm
-use Rattle.moves.proofs.fresh_cells as fresh-cells
-use Rattle.moves.proofs.fresh_cells.Symbol as fresh-cells-def
-use Rattle.moves.proofs.fresh_cells.Met as fresh-cells-thm
-use Rattle.rows.proofs.fresh_ends as fresh-ends
-use Rattle.rows.proofs.fresh_ends.Symbol as fresh-ends-def
-use Rattle.rows.proofs.fresh_ends.Met as fresh-ends-thm
+use Rattle.scans.proofs.fresh_ends as fresh-ends
+use Rattle.scans.proofs.fresh_ends.Symbol as fresh-ends-def
+use Rattle.scans.proofs.fresh_ends.Met as fresh-ends-thm
 use Rattle.moves.proofs.keep as keep
 use Rattle.moves.proofs.keep.Symbol as keep-def
 use Rattle.moves.proofs.keep.Met as keep-thm
@@ -43,6 +41,9 @@ use Rattle.watch.proofs.fresh as fresh
 use Rattle.watch.proofs.fresh.Statement as stated
 use Rattle.watch.proofs.fresh.Code as code
 use Rattle.watch.proofs.fresh.Code.Mir as written
+use Rattle.bodies.proofs.fresh_cells as fresh-cells
+use Rattle.bodies.proofs.fresh_cells.Symbol as fresh-cells-def
+use Rattle.bodies.proofs.fresh_cells.Met as fresh-cells-thm
 
 module _ {M : Type 1} (𝓤 : URA M) (H : Heap 𝓤) (A : Atoms 𝓤) (W : Given 𝓤 H A) (mem : Memory → SProp 𝓤) (run : Routine → Fun 𝓤) (C : Calls 𝓤 H) (Λ : Loops 𝓤 H) (fm : FmC 𝓤 H (W .laws) C)
     (σ : Head → Ty) (fits-answer-datum : Fits σ answer-datum) (fits-ends : Fits σ ends)
@@ -96,11 +97,11 @@ fresh-spec 𝓤 H 𝓜 𝓖 𝓡 =
     three-closed R u32 (Array u32 3) ([]) answer-datum 𝓤 H 𝓜 𝓖 𝓡 code.env name code.function (code.unfolded 𝓤 H 𝓜 𝓡) (fresh.clauses 𝓤 H (𝓖 .A) (𝓜 .mem) (𝓡 .run)) (λ κs qs x y z a g room₁ room₂ fit. via 𝓤 _ (snd∗ 𝓤 (emp 𝓤) _)
     (walk 𝓤 H (𝓖 .A) (the-given 𝓤 H 𝓜 𝓖 𝓡) (𝓜 .mem) (𝓡 .run) (the-tables 𝓤 H 𝓜 𝓖 𝓡 code.env .C) (the-tables 𝓤 H 𝓜 𝓖 𝓡 code.env .Λ) (framed 𝓤 H 𝓜 𝓖 𝓡 code.env) (entry written.table) (λ x is. answer-datum .lawful 𝓤 H (𝓖 .A) (the-given 𝓤 H 𝓜 𝓖 𝓡) .typed x _ is .0) (λ x is. ends .lawful 𝓤 H (𝓖 .A) (the-given 𝓤 H 𝓜 𝓖 𝓡) .typed x _ is .0)
     (known 𝓤 H 𝓜 𝓖 𝓡 sizes-fit.signature (sizes-fit.spec 𝓤 H (𝓖 .A) (𝓜 .mem) (𝓡 .run)) code.env sizes-fit-def.name sizes-fit-def.routine code.calls-rows·sizes-fit (sizes-fit-thm.met 𝓤 H 𝓜 𝓖 𝓡))
-    (known 𝓤 H 𝓜 𝓖 𝓡 negated.signature (negated.spec 𝓤 H (𝓖 .A) (𝓜 .mem) (𝓡 .run)) code.env negated-def.name negated-def.routine code.calls-rows·negated (negated-thm.met 𝓤 H 𝓜 𝓖 𝓡))
+    (known 𝓤 H 𝓜 𝓖 𝓡 negated.signature (negated.spec 𝓤 H (𝓖 .A) (𝓜 .mem) (𝓡 .run)) code.env negated-def.name negated-def.routine code.calls-scans·negated (negated-thm.met 𝓤 H 𝓜 𝓖 𝓡))
     (known 𝓤 H 𝓜 𝓖 𝓡 no-first.signature (no-first.spec 𝓤 H (𝓖 .A) (𝓜 .mem) (𝓡 .run)) code.env no-first-def.name no-first-def.routine code.calls-moves·no-first (no-first-thm.met 𝓤 H 𝓜 𝓖 𝓡))
     (known 𝓤 H 𝓜 𝓖 𝓡 fresh-rows.signature (fresh-rows.spec 𝓤 H (𝓖 .A) (𝓜 .mem) (𝓡 .run)) code.env fresh-rows-def.name fresh-rows-def.routine code.calls-records·fresh-rows (fresh-rows-thm.met 𝓤 H 𝓜 𝓖 𝓡))
-    (known 𝓤 H 𝓜 𝓖 𝓡 fresh-cells.signature (fresh-cells.spec 𝓤 H (𝓖 .A) (𝓜 .mem) (𝓡 .run)) code.env fresh-cells-def.name fresh-cells-def.routine code.calls-moves·fresh-cells (fresh-cells-thm.met 𝓤 H 𝓜 𝓖 𝓡))
-    (known 𝓤 H 𝓜 𝓖 𝓡 fresh-ends.signature (fresh-ends.spec 𝓤 H (𝓖 .A) (𝓜 .mem) (𝓡 .run)) code.env fresh-ends-def.name fresh-ends-def.routine code.calls-rows·fresh-ends (fresh-ends-thm.met 𝓤 H 𝓜 𝓖 𝓡))
+    (known 𝓤 H 𝓜 𝓖 𝓡 fresh-cells.signature (fresh-cells.spec 𝓤 H (𝓖 .A) (𝓜 .mem) (𝓡 .run)) code.env fresh-cells-def.name fresh-cells-def.routine code.calls-bodies·fresh-cells (fresh-cells-thm.met 𝓤 H 𝓜 𝓖 𝓡))
+    (known 𝓤 H 𝓜 𝓖 𝓡 fresh-ends.signature (fresh-ends.spec 𝓤 H (𝓖 .A) (𝓜 .mem) (𝓡 .run)) code.env fresh-ends-def.name fresh-ends-def.routine code.calls-scans·fresh-ends (fresh-ends-thm.met 𝓤 H 𝓜 𝓖 𝓡))
     (known 𝓤 H 𝓜 𝓖 𝓡 keep.signature (keep.spec 𝓤 H (𝓖 .A) (𝓜 .mem) (𝓡 .run)) code.env keep-def.name keep-def.routine code.calls-moves·keep (keep-thm.met 𝓤 H 𝓜 𝓖 𝓡))
     (known 𝓤 H 𝓜 𝓖 𝓡 done.signature (done.spec 𝓤 H (𝓖 .A) (𝓜 .mem) (𝓡 .run)) code.env done-def.name done-def.routine code.calls-moves·done (done-thm.met 𝓤 H 𝓜 𝓖 𝓡))
     (κs .0) (κs .1 .0) (κs .1 .1 .0) (qs .0) (qs .1 .0) (qs .1 .1 .0) (x .name) (y .name) (z .name) (x .ptr .0) (x .ptr .1) (y .ptr .0) (y .ptr .1) (z .ptr .0) (z .ptr .1) (x .now) (y .now) (z .now) room₁ room₂))

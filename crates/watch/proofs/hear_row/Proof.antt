@@ -3,43 +3,25 @@
 use Rattle.walks.proofs.Kit.{Head, Ty, entry, spelled, Fits, _≡_, refl, sym, _∙_, ap, ℕ, List, [], _∷_, length, getD, URA, named, SProp, ent, emp, id⊢, Lft, Share, GName, flft, Memory, Routine, Heap, Calls, Loops, WpFn, Atoms, Fun, factI, Given, ⋆, ‵, _$_, _∵_, !, qed, by, move, look, init, store, stop, hop, fld, from, load, addr, of-opd, and-then, no-more, assigns, land, returns, returns-within, enter, alloc1, alloc0, params1, pass1, pass0, free0, whole, sub, agg, look-in, FmC, Is, MutSlice, sliceVal, Room, Meets, needs, ref-at, call-plain, call-view, call-mut, guards, the-given, the-tables, known, framed, mut-closed, truth, out, out-room, mut-exits, MutPost}
 use mathlib.Core.Bool.{true, false}
 use Rattle.rows.specs.declared.Row.{Row}
-use Rattle.rows.specs.declared.Ends.{Ends}
-use Rattle.rows.specs.declared.Look.{Look}
 use Rattle.rows.specs.Links.{blank, markedRows, markedEnds}
-use Rattle.rows.specs.Search.{isNo, atOf, numberOf}
 use Rattle.records.proofs.Types.{R, link, row, ends, part, looked}
 use Rattle.watch.proofs.Types.{count-datum, hearing-datum, position-datum}
-use Rattle.receiver.specs.declared.Position.{Position}
-use Rattle.receiver.specs.Heard.{siteFits, positioned}
-use Rattle.receiver.specs.Answers.{hearingIs, HearingFits}
-use Rattle.moves.specs.Answers.{saying, isUnheard, hearNo, hearPart}
+use Rattle.heard.specs.declared.Position.{Position}
+use Rattle.heard.specs.Heard.{siteFits, positioned}
+use Rattle.heard.specs.Answers.{hearingIs, HearingFits}
+use Rattle.moves.specs.Answers.{saying, hearNo}
 use Rattle.moves.proofs.Entries.{hear-none, hear-left, hear-kept}
-use Rattle.receiver.specs.declared.Hearing.the-variants as Hearings
+use Rattle.heard.specs.declared.Hearing.the-variants as Hearings
 use Rattle.moves.specs.declared.Word.the-variants as Wd
-use Rattle.rows.proofs.is_no as is-no
-use Rattle.rows.proofs.is_no.Symbol as is-no-def
-use Rattle.rows.proofs.is_no.Met as is-no-thm
 use Rattle.moves.proofs.uncounted as uncounted
 use Rattle.moves.proofs.uncounted.Symbol as uncounted-def
 use Rattle.moves.proofs.uncounted.Met as uncounted-thm
 use Rattle.records.proofs.found as found
 use Rattle.records.proofs.found.Symbol as found-def
 use Rattle.records.proofs.found.Met as found-thm
-use Rattle.rows.proofs.at_of as at-of
-use Rattle.rows.proofs.at_of.Symbol as at-of-def
-use Rattle.rows.proofs.at_of.Met as at-of-thm
-use Rattle.moves.proofs.hear as hear
-use Rattle.moves.proofs.hear.Symbol as hear-def
-use Rattle.moves.proofs.hear.Met as hear-thm
-use Rattle.moves.proofs.is_unheard as is-unheard
-use Rattle.moves.proofs.is_unheard.Symbol as is-unheard-def
-use Rattle.moves.proofs.is_unheard.Met as is-unheard-thm
 use Rattle.moves.proofs.unheard as unheard
 use Rattle.moves.proofs.unheard.Symbol as unheard-def
 use Rattle.moves.proofs.unheard.Met as unheard-thm
-use Rattle.moves.proofs.hear_part as hear-part
-use Rattle.moves.proofs.hear_part.Symbol as hear-part-def
-use Rattle.moves.proofs.hear_part.Met as hear-part-thm
 use Rattle.records.proofs.mark as mark
 use Rattle.records.proofs.mark.Symbol as mark-def
 use Rattle.records.proofs.mark.Met as mark-thm
@@ -51,6 +33,25 @@ use Rattle.watch.proofs.hear_row as hear-row
 use Rattle.watch.proofs.hear_row.Statement as stated
 use Rattle.watch.proofs.hear_row.Code as code
 use Rattle.watch.proofs.hear_row.Code.Mir as written
+use Rattle.scans.specs.declared.Ends.{Ends}
+use Rattle.scans.specs.declared.Look.{Look}
+use Rattle.scans.specs.Scan.{isNo, atOf, numberOf}
+use Rattle.scans.proofs.is_no as is-no
+use Rattle.scans.proofs.is_no.Symbol as is-no-def
+use Rattle.scans.proofs.is_no.Met as is-no-thm
+use Rattle.scans.proofs.at_of as at-of
+use Rattle.scans.proofs.at_of.Symbol as at-of-def
+use Rattle.scans.proofs.at_of.Met as at-of-thm
+use Rattle.bodies.specs.Bodies.{isUnheard, hearPart}
+use Rattle.bodies.proofs.hear as hear
+use Rattle.bodies.proofs.hear.Symbol as hear-def
+use Rattle.bodies.proofs.hear.Met as hear-thm
+use Rattle.bodies.proofs.is_unheard as is-unheard
+use Rattle.bodies.proofs.is_unheard.Symbol as is-unheard-def
+use Rattle.bodies.proofs.is_unheard.Met as is-unheard-thm
+use Rattle.bodies.proofs.hear_part as hear-part
+use Rattle.bodies.proofs.hear_part.Symbol as hear-part-def
+use Rattle.bodies.proofs.hear_part.Met as hear-part-thm
 
 module _ {M : Type 1} (𝓤 : URA M) (H : Heap 𝓤) (A : Atoms 𝓤) (W : Given 𝓤 H A) (mem : Memory → SProp 𝓤) (run : Routine → Fun 𝓤) (C : Calls 𝓤 H) (Λ : Loops 𝓤 H) (fm : FmC 𝓤 H (W .laws) C)
     (σ : Head → Ty) (fits-count-datum : Fits σ count-datum) (fits-row : Fits σ row) (fits-hearing-datum : Fits σ hearing-datum) (fits-part : Fits σ part) (fits-ends : Fits σ ends) (fits-looked : Fits σ looked) (fits-position-datum : Fits σ position-datum)
@@ -107,14 +108,14 @@ unfolding code.routine
 hear-row-spec 𝓤 H 𝓜 𝓖 𝓡 =
     mut-closed 𝓤 H 𝓜 𝓖 𝓡 R (ends ∷ looked ∷ position-datum ∷ []) count-datum code.env name code.function (code.unfolded 𝓤 H 𝓜 𝓡) (hear-row.clauses 𝓤 H (𝓖 .A) (𝓜 .mem) (𝓡 .run)) (λ κ q γ b o xs a g room fit. needs 𝓤 ((isNo (a .1 .0) ≡ false → siteFits (getD xs (atOf (a .1 .0)) blank .part .heard .site) ≡ true)) _
     (walk 𝓤 H (𝓖 .A) (the-given 𝓤 H 𝓜 𝓖 𝓡) (𝓜 .mem) (𝓡 .run) (the-tables 𝓤 H 𝓜 𝓖 𝓡 code.env .C) (the-tables 𝓤 H 𝓜 𝓖 𝓡 code.env .Λ) (framed 𝓤 H 𝓜 𝓖 𝓡 code.env) (entry written.table) (λ x is. count-datum .lawful 𝓤 H (𝓖 .A) (the-given 𝓤 H 𝓜 𝓖 𝓡) .typed x _ is .0) (λ x is. row .lawful 𝓤 H (𝓖 .A) (the-given 𝓤 H 𝓜 𝓖 𝓡) .typed x _ is .0) (λ x is. hearing-datum .lawful 𝓤 H (𝓖 .A) (the-given 𝓤 H 𝓜 𝓖 𝓡) .typed x _ is .0) (λ x is. part .lawful 𝓤 H (𝓖 .A) (the-given 𝓤 H 𝓜 𝓖 𝓡) .typed x _ is .0) (λ x is. ends .lawful 𝓤 H (𝓖 .A) (the-given 𝓤 H 𝓜 𝓖 𝓡) .typed x _ is .0) (λ x is. looked .lawful 𝓤 H (𝓖 .A) (the-given 𝓤 H 𝓜 𝓖 𝓡) .typed x _ is .0) (λ x is. position-datum .lawful 𝓤 H (𝓖 .A) (the-given 𝓤 H 𝓜 𝓖 𝓡) .typed x _ is .0)
-    (known 𝓤 H 𝓜 𝓖 𝓡 is-no.signature (is-no.spec 𝓤 H (𝓖 .A) (𝓜 .mem) (𝓡 .run)) code.env is-no-def.name is-no-def.routine code.calls-rows·is-no (is-no-thm.met 𝓤 H 𝓜 𝓖 𝓡))
+    (known 𝓤 H 𝓜 𝓖 𝓡 is-no.signature (is-no.spec 𝓤 H (𝓖 .A) (𝓜 .mem) (𝓡 .run)) code.env is-no-def.name is-no-def.routine code.calls-scans·is-no (is-no-thm.met 𝓤 H 𝓜 𝓖 𝓡))
     (known 𝓤 H 𝓜 𝓖 𝓡 uncounted.signature (uncounted.spec 𝓤 H (𝓖 .A) (𝓜 .mem) (𝓡 .run)) code.env uncounted-def.name uncounted-def.routine code.calls-moves·uncounted (uncounted-thm.met 𝓤 H 𝓜 𝓖 𝓡))
     (known 𝓤 H 𝓜 𝓖 𝓡 found.signature (found.spec 𝓤 H (𝓖 .A) (𝓜 .mem) (𝓡 .run)) code.env found-def.name found-def.routine code.calls-records·found (found-thm.met 𝓤 H 𝓜 𝓖 𝓡))
-    (known 𝓤 H 𝓜 𝓖 𝓡 at-of.signature (at-of.spec 𝓤 H (𝓖 .A) (𝓜 .mem) (𝓡 .run)) code.env at-of-def.name at-of-def.routine code.calls-rows·at-of (at-of-thm.met 𝓤 H 𝓜 𝓖 𝓡))
-    (known 𝓤 H 𝓜 𝓖 𝓡 hear.signature (hear.spec 𝓤 H (𝓖 .A) (𝓜 .mem) (𝓡 .run)) code.env hear-def.name hear-def.routine code.calls-moves·hear (hear-thm.met 𝓤 H 𝓜 𝓖 𝓡))
-    (known 𝓤 H 𝓜 𝓖 𝓡 is-unheard.signature (is-unheard.spec 𝓤 H (𝓖 .A) (𝓜 .mem) (𝓡 .run)) code.env is-unheard-def.name is-unheard-def.routine code.calls-moves·is-unheard (is-unheard-thm.met 𝓤 H 𝓜 𝓖 𝓡))
+    (known 𝓤 H 𝓜 𝓖 𝓡 at-of.signature (at-of.spec 𝓤 H (𝓖 .A) (𝓜 .mem) (𝓡 .run)) code.env at-of-def.name at-of-def.routine code.calls-scans·at-of (at-of-thm.met 𝓤 H 𝓜 𝓖 𝓡))
+    (known 𝓤 H 𝓜 𝓖 𝓡 hear.signature (hear.spec 𝓤 H (𝓖 .A) (𝓜 .mem) (𝓡 .run)) code.env hear-def.name hear-def.routine code.calls-bodies·hear (hear-thm.met 𝓤 H 𝓜 𝓖 𝓡))
+    (known 𝓤 H 𝓜 𝓖 𝓡 is-unheard.signature (is-unheard.spec 𝓤 H (𝓖 .A) (𝓜 .mem) (𝓡 .run)) code.env is-unheard-def.name is-unheard-def.routine code.calls-bodies·is-unheard (is-unheard-thm.met 𝓤 H 𝓜 𝓖 𝓡))
     (known 𝓤 H 𝓜 𝓖 𝓡 unheard.signature (unheard.spec 𝓤 H (𝓖 .A) (𝓜 .mem) (𝓡 .run)) code.env unheard-def.name unheard-def.routine code.calls-moves·unheard (unheard-thm.met 𝓤 H 𝓜 𝓖 𝓡))
-    (known 𝓤 H 𝓜 𝓖 𝓡 hear-part.signature (hear-part.spec 𝓤 H (𝓖 .A) (𝓜 .mem) (𝓡 .run)) code.env hear-part-def.name hear-part-def.routine code.calls-moves·hear-part (hear-part-thm.met 𝓤 H 𝓜 𝓖 𝓡))
+    (known 𝓤 H 𝓜 𝓖 𝓡 hear-part.signature (hear-part.spec 𝓤 H (𝓖 .A) (𝓜 .mem) (𝓡 .run)) code.env hear-part-def.name hear-part-def.routine code.calls-bodies·hear-part (hear-part-thm.met 𝓤 H 𝓜 𝓖 𝓡))
     (known 𝓤 H 𝓜 𝓖 𝓡 mark.signature (mark.spec 𝓤 H (𝓖 .A) (𝓜 .mem) (𝓡 .run)) code.env mark-def.name mark-def.routine code.calls-records·mark (mark-thm.met 𝓤 H 𝓜 𝓖 𝓡))
     (known 𝓤 H 𝓜 𝓖 𝓡 counted.signature (counted.spec 𝓤 H (𝓖 .A) (𝓜 .mem) (𝓡 .run)) code.env counted-def.name counted-def.routine code.calls-moves·counted (counted-thm.met 𝓤 H 𝓜 𝓖 𝓡))
     κ q γ b o xs (a .0) (a .1 .0) (a .1 .1 .0) room (fit .0) (fit .1 .0) (fit .1 .1 .0)))

@@ -2,31 +2,27 @@
 -- their equations put together are what the function ensures.
 use Rattle.walks.proofs.Kit.{Head, Ty, entry, spelled, Fits, _≡_, refl, sym, _∙_, ℕ, List, [], _∷_, length, getD, set, URA, named, SProp, ent, emp, id⊢, via, fst∗, Lft, Share, GName, flft, Memory, Routine, Heap, Calls, Loops, WpFn, Atoms, Fun, factI, Given, ⋆, ‵, _$_, _∵_, !, qed, by, move, look, init, stop, hop, fld, from, load, addr, of-opd, and-then, no-more, assigns, land, returns, returns-within, enter, alloc1, alloc0, params1, pass1, pass0, free0, whole, sub, agg, look-in, FmC, Is, MutSlice, sliceVal, Room, Meets, ref-at, call-plain, call-view, call-mut, guards, the-given, the-tables, known, framed, mut-closed, none, truth, out, out-room, mut-exits, MutPost}
 use Rattle.rows.specs.declared.Row.{Row}
-use Rattle.rows.specs.declared.Look.{Look}
+use Rattle.scans.specs.declared.Look.{Look}
 use Rattle.rows.specs.Links.{blank}
-use Rattle.rows.specs.Search.{isNo, atOf, numberOf}
+use Rattle.scans.specs.Scan.{isNo, atOf, numberOf}
 use Rattle.records.proofs.Types.{R, index, link, row, looked}
 use Rattle.watch.proofs.Types.{answer-datum, judgment-datum}
 use Rattle.near_field.specs.declared.Judgment.{Judgment}
 use Rattle.moves.specs.Answers.{saying}
-use Rattle.moves.specs.Moves.{judgedRow}
 use Rattle.moves.proofs.Entries.{judge-none, judge-kept}
 use Rattle.moves.specs.declared.Word.the-variants as Wd
-use Rattle.rows.proofs.is_no as is-no
-use Rattle.rows.proofs.is_no.Symbol as is-no-def
-use Rattle.rows.proofs.is_no.Met as is-no-thm
+use Rattle.scans.proofs.is_no as is-no
+use Rattle.scans.proofs.is_no.Symbol as is-no-def
+use Rattle.scans.proofs.is_no.Met as is-no-thm
 use Rattle.moves.proofs.no_to as no-to
 use Rattle.moves.proofs.no_to.Symbol as no-to-def
 use Rattle.moves.proofs.no_to.Met as no-to-thm
-use Rattle.rows.proofs.at_of as at-of
-use Rattle.rows.proofs.at_of.Symbol as at-of-def
-use Rattle.rows.proofs.at_of.Met as at-of-thm
+use Rattle.scans.proofs.at_of as at-of
+use Rattle.scans.proofs.at_of.Symbol as at-of-def
+use Rattle.scans.proofs.at_of.Met as at-of-thm
 use Rattle.records.proofs.get as get
 use Rattle.records.proofs.get.Symbol as get-def
 use Rattle.records.proofs.get.Met as get-thm
-use Rattle.moves.proofs.judged_part as judged-part
-use Rattle.moves.proofs.judged_part.Symbol as judged-part-def
-use Rattle.moves.proofs.judged_part.Met as judged-part-thm
 use Rattle.records.proofs.put as put
 use Rattle.records.proofs.put.Symbol as put-def
 use Rattle.records.proofs.put.Met as put-thm
@@ -38,6 +34,10 @@ use Rattle.watch.proofs.judge_row as judge-row
 use Rattle.watch.proofs.judge_row.Statement as stated
 use Rattle.watch.proofs.judge_row.Code as code
 use Rattle.watch.proofs.judge_row.Code.Mir as written
+use Rattle.bodies.specs.Bodies.{judgedRow}
+use Rattle.bodies.proofs.judged_part as judged-part
+use Rattle.bodies.proofs.judged_part.Symbol as judged-part-def
+use Rattle.bodies.proofs.judged_part.Met as judged-part-thm
 
 module _ {M : Type 1} (𝓤 : URA M) (H : Heap 𝓤) (A : Atoms 𝓤) (W : Given 𝓤 H A) (mem : Memory → SProp 𝓤) (run : Routine → Fun 𝓤) (C : Calls 𝓤 H) (Λ : Loops 𝓤 H) (fm : FmC 𝓤 H (W .laws) C)
     (σ : Head → Ty) (fits-answer-datum : Fits σ answer-datum) (fits-row : Fits σ row) (fits-looked : Fits σ looked) (fits-judgment-datum : Fits σ judgment-datum)
@@ -82,11 +82,11 @@ unfolding code.routine
 judge-row-spec 𝓤 H 𝓜 𝓖 𝓡 =
     mut-closed 𝓤 H 𝓜 𝓖 𝓡 R (looked ∷ index ∷ judgment-datum ∷ []) answer-datum code.env name code.function (code.unfolded 𝓤 H 𝓜 𝓡) (judge-row.clauses 𝓤 H (𝓖 .A) (𝓜 .mem) (𝓡 .run)) (λ κ q γ b o xs a g room fit. via 𝓤 _ (fst∗ 𝓤 _ (emp 𝓤))
     (walk 𝓤 H (𝓖 .A) (the-given 𝓤 H 𝓜 𝓖 𝓡) (𝓜 .mem) (𝓡 .run) (the-tables 𝓤 H 𝓜 𝓖 𝓡 code.env .C) (the-tables 𝓤 H 𝓜 𝓖 𝓡 code.env .Λ) (framed 𝓤 H 𝓜 𝓖 𝓡 code.env) (entry written.table) (λ x is. answer-datum .lawful 𝓤 H (𝓖 .A) (the-given 𝓤 H 𝓜 𝓖 𝓡) .typed x _ is .0) (λ x is. row .lawful 𝓤 H (𝓖 .A) (the-given 𝓤 H 𝓜 𝓖 𝓡) .typed x _ is .0) (λ x is. looked .lawful 𝓤 H (𝓖 .A) (the-given 𝓤 H 𝓜 𝓖 𝓡) .typed x _ is .0) (λ x is. judgment-datum .lawful 𝓤 H (𝓖 .A) (the-given 𝓤 H 𝓜 𝓖 𝓡) .typed x _ is .0)
-    (known 𝓤 H 𝓜 𝓖 𝓡 is-no.signature (is-no.spec 𝓤 H (𝓖 .A) (𝓜 .mem) (𝓡 .run)) code.env is-no-def.name is-no-def.routine code.calls-rows·is-no (is-no-thm.met 𝓤 H 𝓜 𝓖 𝓡))
+    (known 𝓤 H 𝓜 𝓖 𝓡 is-no.signature (is-no.spec 𝓤 H (𝓖 .A) (𝓜 .mem) (𝓡 .run)) code.env is-no-def.name is-no-def.routine code.calls-scans·is-no (is-no-thm.met 𝓤 H 𝓜 𝓖 𝓡))
     (known 𝓤 H 𝓜 𝓖 𝓡 no-to.signature (no-to.spec 𝓤 H (𝓖 .A) (𝓜 .mem) (𝓡 .run)) code.env no-to-def.name no-to-def.routine code.calls-moves·no-to (no-to-thm.met 𝓤 H 𝓜 𝓖 𝓡))
-    (known 𝓤 H 𝓜 𝓖 𝓡 at-of.signature (at-of.spec 𝓤 H (𝓖 .A) (𝓜 .mem) (𝓡 .run)) code.env at-of-def.name at-of-def.routine code.calls-rows·at-of (at-of-thm.met 𝓤 H 𝓜 𝓖 𝓡))
+    (known 𝓤 H 𝓜 𝓖 𝓡 at-of.signature (at-of.spec 𝓤 H (𝓖 .A) (𝓜 .mem) (𝓡 .run)) code.env at-of-def.name at-of-def.routine code.calls-scans·at-of (at-of-thm.met 𝓤 H 𝓜 𝓖 𝓡))
     (known 𝓤 H 𝓜 𝓖 𝓡 get.signature (get.spec 𝓤 H (𝓖 .A) (𝓜 .mem) (𝓡 .run)) code.env get-def.name get-def.routine code.calls-records·get (get-thm.met 𝓤 H 𝓜 𝓖 𝓡))
-    (known 𝓤 H 𝓜 𝓖 𝓡 judged-part.signature (judged-part.spec 𝓤 H (𝓖 .A) (𝓜 .mem) (𝓡 .run)) code.env judged-part-def.name judged-part-def.routine code.calls-moves·judged-part (judged-part-thm.met 𝓤 H 𝓜 𝓖 𝓡))
+    (known 𝓤 H 𝓜 𝓖 𝓡 judged-part.signature (judged-part.spec 𝓤 H (𝓖 .A) (𝓜 .mem) (𝓡 .run)) code.env judged-part-def.name judged-part-def.routine code.calls-bodies·judged-part (judged-part-thm.met 𝓤 H 𝓜 𝓖 𝓡))
     (known 𝓤 H 𝓜 𝓖 𝓡 put.signature (put.spec 𝓤 H (𝓖 .A) (𝓜 .mem) (𝓡 .run)) code.env put-def.name put-def.routine code.calls-records·put (put-thm.met 𝓤 H 𝓜 𝓖 𝓡))
     (known 𝓤 H 𝓜 𝓖 𝓡 judged.signature (judged.spec 𝓤 H (𝓖 .A) (𝓜 .mem) (𝓡 .run)) code.env judged-def.name judged-def.routine code.calls-moves·judged (judged-thm.met 𝓤 H 𝓜 𝓖 𝓡))
     κ q γ b o xs (a .0) (a .1 .0) (a .1 .1 .0) room (fit .0) (fit .1 .0) (fit .1 .1 .0)))

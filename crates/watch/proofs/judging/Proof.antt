@@ -2,13 +2,13 @@
 -- their equations put together are what the function ensures.
 use Rattle.walks.proofs.Kit.{Head, Ty, entry, spelled, Fits, _≡_, refl, ℕ, List, [], _∷_, length, getD, URA, vptr, SProp, ent, emp, id⊢, via, snd∗, Lft, Share, GName, Memory, Routine, Heap, Calls, Loops, WpFn, Atoms, Fun, factI, Given, ⋆, _$_, _∵_, !, qed, by, move, look, init, stop, hop, fld, from, load, addr, of-opd, and-then, no-more, assigns, land, returns, enter, alloc1, alloc0, params1, pass1, pass0, free0, whole, sub, agg, look-in, FmC, Is, u32, Array, sliceVal, Room, Meets, ref-at, thin-at, call-view, call-mut, call-ref, the-given, the-tables, known, framed, out, Held, three-exits, ThreePost, three-closed}
 use Rattle.rows.specs.declared.Row.{Row}
-use Rattle.rows.specs.declared.Key.{Key}
+use Rattle.scans.specs.declared.Key.{Key}
 use Rattle.rows.specs.Read.{Looked, endsIs, endsOf}
 use Rattle.rows.specs.Links.{blank}
-use Rattle.rows.specs.Search.{atOf}
+use Rattle.scans.specs.Scan.{atOf}
 use Rattle.records.proofs.Types.{R, index, row, ends, key, part, looked}
 use Rattle.watch.proofs.Types.{answer-datum, judgment-datum, heard-datum}
-use Rattle.moves.specs.Moves.{dueLook, judgedAt, judgedAs, judgedRows}
+use Rattle.moves.specs.Moves.{judgedAs, judgedRows}
 use Rattle.moves.proofs.Entries.{due-room, judging-so}
 use Rattle.moves.proofs.ends_of as ends-of
 use Rattle.moves.proofs.ends_of.Symbol as ends-of-def
@@ -22,9 +22,6 @@ use Rattle.watch.proofs.due_at.Met as due-at-thm
 use Rattle.watch.proofs.heard_at as heard-at
 use Rattle.watch.proofs.heard_at.Symbol as heard-at-def
 use Rattle.watch.proofs.heard_at.Met as heard-at-thm
-use Rattle.moves.proofs.judge_at as judge-at
-use Rattle.moves.proofs.judge_at.Symbol as judge-at-def
-use Rattle.moves.proofs.judge_at.Met as judge-at-thm
 use Rattle.watch.proofs.judge_row as judge-row
 use Rattle.watch.proofs.judge_row.Symbol as judge-row-def
 use Rattle.watch.proofs.judge_row.Met as judge-row-thm
@@ -33,6 +30,10 @@ use Rattle.watch.proofs.judging as judging
 use Rattle.watch.proofs.judging.Statement as stated
 use Rattle.watch.proofs.judging.Code as code
 use Rattle.watch.proofs.judging.Code.Mir as written
+use Rattle.bodies.specs.Bodies.{dueLook, judgedAt}
+use Rattle.bodies.proofs.judge_at as judge-at
+use Rattle.bodies.proofs.judge_at.Symbol as judge-at-def
+use Rattle.bodies.proofs.judge_at.Met as judge-at-thm
 
 module _ {M : Type 1} (𝓤 : URA M) (H : Heap 𝓤) (A : Atoms 𝓤) (W : Given 𝓤 H A) (mem : Memory → SProp 𝓤) (run : Routine → Fun 𝓤) (C : Calls 𝓤 H) (Λ : Loops 𝓤 H) (fm : FmC 𝓤 H (W .laws) C)
     (σ : Head → Ty) (fits-ends : Fits σ ends) (fits-looked : Fits σ looked) (fits-heard-datum : Fits σ heard-datum) (fits-judgment-datum : Fits σ judgment-datum) (fits-answer-datum : Fits σ answer-datum) (fits-key : Fits σ key)
@@ -85,6 +86,6 @@ judging-spec 𝓤 H 𝓜 𝓖 𝓡 =
     (known 𝓤 H 𝓜 𝓖 𝓡 look-up.signature (look-up.spec 𝓤 H (𝓖 .A) (𝓜 .mem) (𝓡 .run)) code.env look-up-def.name look-up-def.routine code.calls-records·look-up (look-up-thm.met 𝓤 H 𝓜 𝓖 𝓡))
     (known 𝓤 H 𝓜 𝓖 𝓡 due-at.signature (due-at.spec 𝓤 H (𝓖 .A) (𝓜 .mem) (𝓡 .run)) code.env due-at-def.name due-at-def.routine code.calls-watch·due-at (due-at-thm.met 𝓤 H 𝓜 𝓖 𝓡))
     (known 𝓤 H 𝓜 𝓖 𝓡 heard-at.signature (heard-at.spec 𝓤 H (𝓖 .A) (𝓜 .mem) (𝓡 .run)) code.env heard-at-def.name heard-at-def.routine code.calls-watch·heard-at (heard-at-thm.met 𝓤 H 𝓜 𝓖 𝓡))
-    (known 𝓤 H 𝓜 𝓖 𝓡 judge-at.signature (judge-at.spec 𝓤 H (𝓖 .A) (𝓜 .mem) (𝓡 .run)) code.env judge-at-def.name judge-at-def.routine code.calls-moves·judge-at (judge-at-thm.met 𝓤 H 𝓜 𝓖 𝓡))
+    (known 𝓤 H 𝓜 𝓖 𝓡 judge-at.signature (judge-at.spec 𝓤 H (𝓖 .A) (𝓜 .mem) (𝓡 .run)) code.env judge-at-def.name judge-at-def.routine code.calls-bodies·judge-at (judge-at-thm.met 𝓤 H 𝓜 𝓖 𝓡))
     (known 𝓤 H 𝓜 𝓖 𝓡 judge-row.signature (judge-row.spec 𝓤 H (𝓖 .A) (𝓜 .mem) (𝓡 .run)) code.env judge-row-def.name judge-row-def.routine code.calls-watch·judge-row (judge-row-thm.met 𝓤 H 𝓜 𝓖 𝓡))
     (κs .0) (κs .1 .0) (κs .1 .1 .0) (qs .0) (qs .1 .0) (qs .1 .1 .0) (x .name) (y .name) (z .name) (x .ptr .0) (x .ptr .1) (y .ptr .0) (y .ptr .1) (z .ptr .0) (z .ptr .1) (x .now) (y .now) (z .now) (a .0) (a .1 .0) (a .1 .1 .0) room₁ room₂ (fit .0) (fit .1 .0) (fit .1 .1 .0)))

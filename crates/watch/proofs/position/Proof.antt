@@ -2,13 +2,11 @@
 -- their equations put together are what the function ensures.
 use Rattle.walks.proofs.Kit.{Head, Ty, entry, spelled, Fits, _≡_, refl, ℕ, List, [], _∷_, length, getD, URA, vptr, SProp, ent, emp, id⊢, via, snd∗, Lft, Share, GName, Memory, Routine, Heap, Calls, Loops, WpFn, Atoms, Fun, factI, Given, ⋆, _$_, _∵_, !, qed, by, move, look, init, store, stop, hop, fld, from, load, addr, of-opd, and-then, no-more, assigns, land, returns, enter, alloc1, alloc0, params1, pass1, pass0, free0, whole, sub, agg, look-in, FmC, Is, u32, Array, sliceVal, Room, Meets, ref-at, thin-at, call-plain, call-view, call-mut, call-ref, the-given, the-tables, known, framed, none, out, Held, three-exits, ThreePost, three-closed}
 use Rattle.rows.specs.declared.Row.{Row}
-use Rattle.rows.specs.declared.Key.{Key}
 use Rattle.rows.specs.Read.{Looked, endsIs, endsOf}
 use Rattle.rows.specs.Links.{blank}
-use Rattle.rows.specs.Search.{atOf}
 use Rattle.records.proofs.Types.{R, index, row, ends, key, looked}
 use Rattle.watch.proofs.Types.{answer-datum, count-datum, position-datum}
-use Rattle.receiver.specs.declared.Position.{Position}
+use Rattle.heard.specs.declared.Position.{Position}
 use Rattle.moves.specs.Moves.{countedAt, HeardRow}
 use Rattle.moves.proofs.Looked.{held-site}
 use Rattle.moves.proofs.Entries.{position-room, position-so}
@@ -35,6 +33,8 @@ use Rattle.watch.proofs.position as position
 use Rattle.watch.proofs.position.Statement as stated
 use Rattle.watch.proofs.position.Code as code
 use Rattle.watch.proofs.position.Code.Mir as written
+use Rattle.scans.specs.declared.Key.{Key}
+use Rattle.scans.specs.Scan.{atOf}
 
 module _ {M : Type 1} (𝓤 : URA M) (H : Heap 𝓤) (A : Atoms 𝓤) (W : Given 𝓤 H A) (mem : Memory → SProp 𝓤) (run : Routine → Fun 𝓤) (C : Calls 𝓤 H) (Λ : Loops 𝓤 H) (fm : FmC 𝓤 H (W .laws) C)
     (σ : Head → Ty) (fits-ends : Fits σ ends) (fits-looked : Fits σ looked) (fits-count-datum : Fits σ count-datum) (fits-answer-datum : Fits σ answer-datum) (fits-key : Fits σ key) (fits-position-datum : Fits σ position-datum)

@@ -2,25 +2,25 @@
 -- their equations put together are what the function ensures.
 use Rattle.walks.proofs.Kit.{Head, Ty, entry, spelled, Fits, _≡_, refl, sym, _∙_, ℕ, List, [], _∷_, length, getD, URA, named, SProp, ent, emp, id⊢, via, fst∗, Lft, Share, GName, flft, Memory, Routine, Heap, Calls, Loops, WpFn, Atoms, Fun, factI, Given, ⋆, ‵, _$_, _∵_, !, qed, by, move, look, init, stop, hop, fld, from, load, addr, of-opd, and-then, no-more, assigns, land, returns, returns-within, enter, alloc1, alloc0, params1, pass1, pass0, free0, whole, sub, agg, look-in, FmC, Is, MutSlice, sliceVal, Room, Meets, ref-at, call-plain, call-view, call-mut, guards, the-given, the-tables, known, framed, mut-closed, truth, out, out-room, mut-exits, MutPost}
 use Rattle.rows.specs.declared.Row.{Row}
-use Rattle.rows.specs.declared.Ends.{Ends}
-use Rattle.rows.specs.declared.Look.{Look}
+use Rattle.scans.specs.declared.Ends.{Ends}
+use Rattle.scans.specs.declared.Look.{Look}
 use Rattle.rows.specs.Links.{blank, releasedRows, releasedEnds}
-use Rattle.rows.specs.Search.{isNo, atOf, numberOf}
+use Rattle.scans.specs.Scan.{isNo, atOf, numberOf}
 use Rattle.records.proofs.Types.{R, link, row, ends, key, looked}
 use Rattle.watch.proofs.Types.{answer-datum, move-datum}
 use Rattle.moves.specs.Answers.{saying, freeing}
 use Rattle.moves.specs.Moves.{staying}
 use Rattle.moves.proofs.Entries.{remove-none, remove-kept}
 use Rattle.moves.specs.declared.Word.the-variants as Wd
-use Rattle.rows.proofs.is_no as is-no
-use Rattle.rows.proofs.is_no.Symbol as is-no-def
-use Rattle.rows.proofs.is_no.Met as is-no-thm
+use Rattle.scans.proofs.is_no as is-no
+use Rattle.scans.proofs.is_no.Symbol as is-no-def
+use Rattle.scans.proofs.is_no.Met as is-no-thm
 use Rattle.moves.proofs.unfit_move as unfit-move
 use Rattle.moves.proofs.unfit_move.Symbol as unfit-move-def
 use Rattle.moves.proofs.unfit_move.Met as unfit-move-thm
-use Rattle.rows.proofs.at_of as at-of
-use Rattle.rows.proofs.at_of.Symbol as at-of-def
-use Rattle.rows.proofs.at_of.Met as at-of-thm
+use Rattle.scans.proofs.at_of as at-of
+use Rattle.scans.proofs.at_of.Symbol as at-of-def
+use Rattle.scans.proofs.at_of.Met as at-of-thm
 use Rattle.records.proofs.get as get
 use Rattle.records.proofs.get.Symbol as get-def
 use Rattle.records.proofs.get.Met as get-thm
@@ -82,9 +82,9 @@ unfolding code.routine
 remove-spec 𝓤 H 𝓜 𝓖 𝓡 =
     mut-closed 𝓤 H 𝓜 𝓖 𝓡 R (ends ∷ looked ∷ []) move-datum code.env name code.function (code.unfolded 𝓤 H 𝓜 𝓡) (remove.clauses 𝓤 H (𝓖 .A) (𝓜 .mem) (𝓡 .run)) (λ κ q γ b o xs a g room fit. via 𝓤 _ (fst∗ 𝓤 _ (emp 𝓤))
     (walk 𝓤 H (𝓖 .A) (the-given 𝓤 H 𝓜 𝓖 𝓡) (𝓜 .mem) (𝓡 .run) (the-tables 𝓤 H 𝓜 𝓖 𝓡 code.env .C) (the-tables 𝓤 H 𝓜 𝓖 𝓡 code.env .Λ) (framed 𝓤 H 𝓜 𝓖 𝓡 code.env) (entry written.table) (λ x is. move-datum .lawful 𝓤 H (𝓖 .A) (the-given 𝓤 H 𝓜 𝓖 𝓡) .typed x _ is .0) (λ x is. row .lawful 𝓤 H (𝓖 .A) (the-given 𝓤 H 𝓜 𝓖 𝓡) .typed x _ is .0) (λ x is. ends .lawful 𝓤 H (𝓖 .A) (the-given 𝓤 H 𝓜 𝓖 𝓡) .typed x _ is .0) (λ x is. answer-datum .lawful 𝓤 H (𝓖 .A) (the-given 𝓤 H 𝓜 𝓖 𝓡) .typed x _ is .0) (λ x is. looked .lawful 𝓤 H (𝓖 .A) (the-given 𝓤 H 𝓜 𝓖 𝓡) .typed x _ is .0)
-    (known 𝓤 H 𝓜 𝓖 𝓡 is-no.signature (is-no.spec 𝓤 H (𝓖 .A) (𝓜 .mem) (𝓡 .run)) code.env is-no-def.name is-no-def.routine code.calls-rows·is-no (is-no-thm.met 𝓤 H 𝓜 𝓖 𝓡))
+    (known 𝓤 H 𝓜 𝓖 𝓡 is-no.signature (is-no.spec 𝓤 H (𝓖 .A) (𝓜 .mem) (𝓡 .run)) code.env is-no-def.name is-no-def.routine code.calls-scans·is-no (is-no-thm.met 𝓤 H 𝓜 𝓖 𝓡))
     (known 𝓤 H 𝓜 𝓖 𝓡 unfit-move.signature (unfit-move.spec 𝓤 H (𝓖 .A) (𝓜 .mem) (𝓡 .run)) code.env unfit-move-def.name unfit-move-def.routine code.calls-moves·unfit-move (unfit-move-thm.met 𝓤 H 𝓜 𝓖 𝓡))
-    (known 𝓤 H 𝓜 𝓖 𝓡 at-of.signature (at-of.spec 𝓤 H (𝓖 .A) (𝓜 .mem) (𝓡 .run)) code.env at-of-def.name at-of-def.routine code.calls-rows·at-of (at-of-thm.met 𝓤 H 𝓜 𝓖 𝓡))
+    (known 𝓤 H 𝓜 𝓖 𝓡 at-of.signature (at-of.spec 𝓤 H (𝓖 .A) (𝓜 .mem) (𝓡 .run)) code.env at-of-def.name at-of-def.routine code.calls-scans·at-of (at-of-thm.met 𝓤 H 𝓜 𝓖 𝓡))
     (known 𝓤 H 𝓜 𝓖 𝓡 get.signature (get.spec 𝓤 H (𝓖 .A) (𝓜 .mem) (𝓡 .run)) code.env get-def.name get-def.routine code.calls-records·get (get-thm.met 𝓤 H 𝓜 𝓖 𝓡))
     (known 𝓤 H 𝓜 𝓖 𝓡 release.signature (release.spec 𝓤 H (𝓖 .A) (𝓜 .mem) (𝓡 .run)) code.env release-def.name release-def.routine code.calls-records·release (release-thm.met 𝓤 H 𝓜 𝓖 𝓡))
     (known 𝓤 H 𝓜 𝓖 𝓡 freed-row.signature (freed-row.spec 𝓤 H (𝓖 .A) (𝓜 .mem) (𝓡 .run)) code.env freed-row-def.name freed-row-def.routine code.calls-moves·freed-row (freed-row-thm.met 𝓤 H 𝓜 𝓖 𝓡))

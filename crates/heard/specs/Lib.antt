@@ -1,0 +1,3 @@
+-- The definitions that contracts and theorems cite.
+pub mod Heard
+pub mod Answers

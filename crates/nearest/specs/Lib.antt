@@ -1,0 +1,4 @@
+-- The definitions that the contracts cite.
+pub mod Weights
+pub mod Nothing
+pub mod Counted

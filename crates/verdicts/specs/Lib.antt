@@ -1,0 +1,2 @@
+-- The definitions that contracts and theorems cite.
+pub mod Verdict
