@@ -7,7 +7,7 @@ use native.Mathlib.Omega.{arith}
 use lib.Dec.{eqb, leb, ltb}
 use lib.Ieee.{binary64, toBits}
 use lib.ListN.{length, getD, take, drop, length-append, length-take}
-use Rattle.fields.specs.Text.{partOf, shownOf, printable}
+use Rattle.fields.specs.Text.{spell, partOf, shownOf, printable}
 use Rattle.print.specs.Print.{digits, withoutZeros, decimalText, bitsText}
 use Rattle.print.proofs.Printing.{digits-length}
 use Rattle.near_field.specs.declared.Judgment.{Judgment}
@@ -18,7 +18,7 @@ use Rattle.verdicts.specs.declared.CheckState.{CheckState}
 use Rattle.verdicts.specs.declared.CheckState.the-variants as state
 use Rattle.moves.specs.declared.Word.{Word}
 use Rattle.moves.specs.declared.Word.the-variants as word
-use Rattle.answers.specs.Words.{spell, _then_, nameText}
+use Rattle.answers.specs.Words.{_then_, nameText}
 use Rattle.answers.specs.Answers.{shownText, strayText, faultText, bytesText, keyText, evidenceText, judgmentText, stateText, claimText, callText, wrongText, bitOf, replyText, textOf}
 use Rattle.answers.specs.declared.Reply.{Reply}
 use Rattle.readers.specs.declared.Name.{Name}

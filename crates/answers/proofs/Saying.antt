@@ -7,7 +7,7 @@ use lib.Dec.{leb}
 use lib.Ieee.{Float, binary64, toBits}
 use borrow.Author.Tests.{ne-eqb}
 use lib.ListN.{length, take, drop}
-use Rattle.fields.specs.Text.{firstOf, partOf, shownOf, printable}
+use Rattle.fields.specs.Text.{spell, firstOf, partOf, shownOf, printable}
 use Rattle.print.specs.Print.{decimalText, bitsText}
 use Rattle.near_field.specs.declared.Judgment.{Judgment}
 use Rattle.near_field.specs.declared.Judgment.the-variants as judgment
@@ -18,7 +18,7 @@ use Rattle.answers.specs.declared.fault.Blame.{Blame}
 use Rattle.answers.specs.declared.phrase.Form.the-variants as form
 use Rattle.answers.specs.declared.phrase.Rest.the-variants as rest
 use Rattle.answers.specs.declared.phrase.Phrase.{Phrase}
-use Rattle.answers.specs.Words.{spell, _then_, nameText, wordAt}
+use Rattle.answers.specs.Words.{_then_, nameText, wordAt}
 use Rattle.answers.specs.Answers.{shownText, strayText, faultText, evidenceText, judgmentText, stateText, claimText, callText, bitOf, replyText}
 use Rattle.answers.specs.Phrases.{phraseText, blameText, fixedOf, countedOf, hexedOf}
 use Rattle.answers.specs.declared.Reply.{Reply}

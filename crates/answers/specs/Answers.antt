@@ -6,7 +6,7 @@ use mathlib.Core.List.{List, []}
 use lib.ListN.{length, getD}
 use lib.Dec.{eqb, leb}
 use lib.Ieee.{binary64, toBits}
-use Rattle.fields.specs.Text.{partOf, shownOf}
+use Rattle.fields.specs.Text.{spell, partOf, shownOf}
 use Rattle.print.specs.Print.{digits, decimalText, bitsText, putIn, putEnd}
 use Rattle.near_field.specs.declared.Judgment.{Judgment}
 use Rattle.near_field.specs.declared.Judgment.the-variants as judgment
@@ -16,7 +16,7 @@ use Rattle.verdicts.specs.declared.CheckState.{CheckState}
 use Rattle.verdicts.specs.declared.CheckState.the-variants as state
 use Rattle.moves.specs.declared.Word.{Word}
 use Rattle.moves.specs.declared.Word.the-variants as word
-use Rattle.answers.specs.Words.{spell, _then_, nameText}
+use Rattle.answers.specs.Words.{_then_, nameText}
 use Rattle.answers.specs.declared.Reply.{Reply}
 use Rattle.readers.specs.declared.Fault.{Fault}
 use Rattle.readers.specs.declared.Fault.the-variants as fault

@@ -4,7 +4,7 @@ use mathlib.Core.Path.{_≡_}
 use mathlib.Core.List.{List, []}
 use Rattle.fields.specs.Text.{partOf}
 use Rattle.print.specs.Print.{decimalText, bitsText}
-use Rattle.answers.specs.Words.{spell, _then_, wordAt}
+use Rattle.answers.specs.Words.{_then_, wordAt}
 use Rattle.answers.specs.Answers.{shownText, faultText, keyText}
 use Rattle.answers.specs.declared.phrase.Form.{Form}
 use Rattle.answers.specs.declared.phrase.Form.the-variants as form

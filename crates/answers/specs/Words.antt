@@ -1,16 +1,9 @@
 -- The words of the answers (DESIGN section 6: 'A list of calls, as text'), as bytes. Definitions only.
 use Prim.Native.Nat.{ℕ}
-use Prim.Native.Char.{code}
-use Prim.Native.String.{String, [] as none, _∷_ as _before_}
-use mathlib.Core.List.{List, [], _∷_, _++_}
-use Rattle.fields.specs.Text.{firstOf, partOf}
+use mathlib.Core.List.{List, _++_}
+use Rattle.fields.specs.Text.{spell, firstOf, partOf}
 use Rattle.readers.specs.declared.Name.{Name}
 use Rattle.readers.specs.declared.Name.the-variants as name
-
--- a text's bytes
-abbrev pub spell : String → List ℕ
-spell none = []
-spell (c before s) = code c ∷ spell s
 
 -- one text and another after it
 infixr 40 _then_

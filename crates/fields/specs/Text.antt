@@ -1,11 +1,18 @@
 -- A line of a list of calls, as bytes: its text, its fields, its words. Definitions only.
 use Prim.Native.Nat.{ℕ, zero, suc, _+_, _-_, min}
+use Prim.Native.Char.{code}
+use Prim.Native.String.{String, [] as none, _∷_ as _before_}
 use mathlib.Core.Bool.{Bool, true, false, _&&_, cond}
 use mathlib.Core.List.{List, [], _∷_, _++_}
 use lib.ListN.{length, getD, take, drop}
 use lib.Dec.{eqb, leb, ltb}
 use Rattle.fields.specs.declared.Field.{Field}
 use Rattle.fields.specs.declared.Field.the-variants.{At, Stray, End}
+
+-- a text's bytes
+abbrev pub spell : String → List ℕ
+spell none = []
+spell (c before s) = code c ∷ spell s
 
 -- where the byte c first stands in s, or the length of s where it stands nowhere
 unfoldable pub firstOf : ℕ → List ℕ → ℕ

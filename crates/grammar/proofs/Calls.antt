@@ -6,7 +6,7 @@ use Prim.Native.Nat.{ℕ, _-_, _^_, _<_, _≤_}
 use native.Mathlib.Omega.{arith}
 use borrow.Author.Tests.{eq-eqb, ne-eqb, lt-ltb, le-ltb}
 use lib.ListN.{length, replicate}
-use Rattle.fields.specs.Text.{textEnd, fieldAt, partOf, sameBytes}
+use Rattle.fields.specs.Text.{spell, textEnd, fieldAt, partOf, sameBytes}
 use Rattle.fields.specs.declared.Field.{Field}
 use Rattle.fields.specs.declared.Field.the-variants.{At, Stray, End}
 use Rattle.readers.specs.declared.Name.{Name}
@@ -30,18 +30,18 @@ use Rattle.readers.specs.declared.Two.{Two}
 use Rattle.readers.specs.declared.Four.{Four}
 use Rattle.readers.specs.declared.SiteHeld.{SiteHeld}
 use Rattle.readers.specs.Fields.{startAt, wholeAt, smallAt, linkAt, feetAt, keyAt, endedAt, twoAt, fourAt, claimAt, partAt, linksAt, clockAt}
-use Rattle.grammar.specs.Lines.{wordPlace, wordSame, wordHorizon, wordBucket, wordBit, wordFresh, wordDrop, wordCheck, wordTakeout, wordClaim, wordPosition, wordJudging, wordTurn, wordWatch, wordDigest, wordLend, wordRow, wordCell, wordEnds, pickOf, whichSingle, whichCall, whichLent, whichOf, saying, toldBy, bareLine, keyLine, watchLine, claimLine, positionLine, judgingLine, turnLine, placeLine, sameLine, horizonLine, bucketLine, bitLine, lendLine, rowPart, rowLine, cellLine, endsLine, lineBy, callOf, returnAtEnd, textBy, textOf, lineOf}
+use Rattle.grammar.specs.Lines.{pickOf, whichSingle, whichCall, whichLent, whichOf, saying, toldBy, bareLine, keyLine, watchLine, claimLine, positionLine, judgingLine, turnLine, placeLine, sameLine, horizonLine, bucketLine, bitLine, lendLine, rowPart, rowLine, cellLine, endsLine, lineBy, callOf, returnAtEnd, textBy, textOf, lineOf}
 
 -- ---- the words
-pub which-single : (w : List ℕ) (other k1 k2 k3 k4 k5 : Kind) → k1 ≡ pickOf w wordPlace kind.Place other → k2 ≡ pickOf w wordSame kind.Same k1 → k3 ≡ pickOf w wordHorizon kind.Horizon k2 → k4 ≡ pickOf w wordBucket kind.Bucket k3 → k5 ≡ pickOf w wordBit kind.Bit k4 → k5 ≡ whichSingle w other
+pub which-single : (w : List ℕ) (other k1 k2 k3 k4 k5 : Kind) → k1 ≡ pickOf w (spell "place") kind.Place other → k2 ≡ pickOf w (spell "same") kind.Same k1 → k3 ≡ pickOf w (spell "horizon") kind.Horizon k2 → k4 ≡ pickOf w (spell "bucket") kind.Bucket k3 → k5 ≡ pickOf w (spell "bit") kind.Bit k4 → k5 ≡ whichSingle w other
 unfolding whichSingle
 which-single w other k1 k2 k3 k4 k5 e1 e2 e3 e4 e5 = rw (e5, e4, e3, e2, e1)
 
-pub which-call : (w : List ℕ) (other k1 k2 k3 k4 k5 k6 k7 k8 : Kind) → k1 ≡ pickOf w wordFresh kind.Fresh other → k2 ≡ pickOf w wordDrop kind.Drop k1 → k3 ≡ pickOf w wordCheck kind.Check k2 → k4 ≡ pickOf w wordTakeout kind.TakeOut k3 → k5 ≡ pickOf w wordClaim kind.Claim k4 → k6 ≡ pickOf w wordPosition kind.Position k5 → k7 ≡ pickOf w wordJudging kind.Judging k6 → k8 ≡ pickOf w wordTurn kind.Turn k7 → k8 ≡ whichCall w other
+pub which-call : (w : List ℕ) (other k1 k2 k3 k4 k5 k6 k7 k8 : Kind) → k1 ≡ pickOf w (spell "fresh") kind.Fresh other → k2 ≡ pickOf w (spell "drop") kind.Drop k1 → k3 ≡ pickOf w (spell "check") kind.Check k2 → k4 ≡ pickOf w (spell "takeout") kind.TakeOut k3 → k5 ≡ pickOf w (spell "claim") kind.Claim k4 → k6 ≡ pickOf w (spell "position") kind.Position k5 → k7 ≡ pickOf w (spell "judging") kind.Judging k6 → k8 ≡ pickOf w (spell "turn") kind.Turn k7 → k8 ≡ whichCall w other
 unfolding whichCall
 which-call w other k1 k2 k3 k4 k5 k6 k7 k8 e1 e2 e3 e4 e5 e6 e7 e8 = rw (e8, e7, e6, e5, e4, e3, e2, e1)
 
-pub which-lent : (w : List ℕ) (other k1 k2 k3 k4 k5 k6 : Kind) → k1 ≡ pickOf w wordWatch kind.Watch other → k2 ≡ pickOf w wordDigest kind.Digest k1 → k3 ≡ pickOf w wordLend kind.Lend k2 → k4 ≡ pickOf w wordRow kind.Row k3 → k5 ≡ pickOf w wordCell kind.Cell k4 → k6 ≡ pickOf w wordEnds kind.Ends k5 → k6 ≡ whichLent w other
+pub which-lent : (w : List ℕ) (other k1 k2 k3 k4 k5 k6 : Kind) → k1 ≡ pickOf w (spell "watch") kind.Watch other → k2 ≡ pickOf w (spell "digest") kind.Digest k1 → k3 ≡ pickOf w (spell "lend") kind.Lend k2 → k4 ≡ pickOf w (spell "row") kind.Row k3 → k5 ≡ pickOf w (spell "cell") kind.Cell k4 → k6 ≡ pickOf w (spell "ends") kind.Ends k5 → k6 ≡ whichLent w other
 unfolding whichLent
 which-lent w other k1 k2 k3 k4 k5 k6 e1 e2 e3 e4 e5 e6 = rw (e6, e5, e4, e3, e2, e1)
 

@@ -1,11 +1,11 @@
 -- What a line asks for (README, 'A list of calls'). Definitions only.
 use Prim.Native.Nat.{ℕ, _-_, _^_}
 use mathlib.Core.Bool.{Bool, _&&_, cond}
-use mathlib.Core.List.{List, [], _∷_}
+use mathlib.Core.List.{List}
 use lib.Dec.{eqb, ltb}
 use lib.ListN.{length, getD, replicate}
 use Rattle.receiver.specs.declared.Part.{Part}
-use Rattle.fields.specs.Text.{textEnd, fieldAt, partOf, sameBytes}
+use Rattle.fields.specs.Text.{spell, textEnd, fieldAt, partOf, sameBytes}
 use Rattle.fields.specs.declared.Field.{Field}
 use Rattle.fields.specs.declared.Field.the-variants.{At, Stray, End}
 use Rattle.readers.specs.Fields.{startAt, wholeAt, smallAt, linkAt, feetAt, keyAt, endedAt, twoAt, fourAt, claimAt, partAt, linksAt, clockAt}
@@ -31,74 +31,17 @@ use Rattle.readers.specs.declared.SiteHeld.{SiteHeld}
 
 -- ---- the words
 
-abbrev pub wordPlace : List ℕ
-wordPlace = 112 ∷ 108 ∷ 97 ∷ 99 ∷ 101 ∷ []
-
-abbrev pub wordSame : List ℕ
-wordSame = 115 ∷ 97 ∷ 109 ∷ 101 ∷ []
-
-abbrev pub wordHorizon : List ℕ
-wordHorizon = 104 ∷ 111 ∷ 114 ∷ 105 ∷ 122 ∷ 111 ∷ 110 ∷ []
-
-abbrev pub wordBucket : List ℕ
-wordBucket = 98 ∷ 117 ∷ 99 ∷ 107 ∷ 101 ∷ 116 ∷ []
-
-abbrev pub wordBit : List ℕ
-wordBit = 98 ∷ 105 ∷ 116 ∷ []
-
-abbrev pub wordFresh : List ℕ
-wordFresh = 102 ∷ 114 ∷ 101 ∷ 115 ∷ 104 ∷ []
-
-abbrev pub wordDrop : List ℕ
-wordDrop = 100 ∷ 114 ∷ 111 ∷ 112 ∷ []
-
-abbrev pub wordCheck : List ℕ
-wordCheck = 99 ∷ 104 ∷ 101 ∷ 99 ∷ 107 ∷ []
-
-abbrev pub wordTakeout : List ℕ
-wordTakeout = 116 ∷ 97 ∷ 107 ∷ 101 ∷ 111 ∷ 117 ∷ 116 ∷ []
-
-abbrev pub wordClaim : List ℕ
-wordClaim = 99 ∷ 108 ∷ 97 ∷ 105 ∷ 109 ∷ []
-
-abbrev pub wordPosition : List ℕ
-wordPosition = 112 ∷ 111 ∷ 115 ∷ 105 ∷ 116 ∷ 105 ∷ 111 ∷ 110 ∷ []
-
-abbrev pub wordJudging : List ℕ
-wordJudging = 106 ∷ 117 ∷ 100 ∷ 103 ∷ 105 ∷ 110 ∷ 103 ∷ []
-
-abbrev pub wordTurn : List ℕ
-wordTurn = 116 ∷ 117 ∷ 114 ∷ 110 ∷ []
-
-abbrev pub wordWatch : List ℕ
-wordWatch = 119 ∷ 97 ∷ 116 ∷ 99 ∷ 104 ∷ []
-
-abbrev pub wordDigest : List ℕ
-wordDigest = 100 ∷ 105 ∷ 103 ∷ 101 ∷ 115 ∷ 116 ∷ []
-
-abbrev pub wordLend : List ℕ
-wordLend = 108 ∷ 101 ∷ 110 ∷ 100 ∷ []
-
-abbrev pub wordRow : List ℕ
-wordRow = 114 ∷ 111 ∷ 119 ∷ []
-
-abbrev pub wordCell : List ℕ
-wordCell = 99 ∷ 101 ∷ 108 ∷ 108 ∷ []
-
-abbrev pub wordEnds : List ℕ
-wordEnds = 101 ∷ 110 ∷ 100 ∷ 115 ∷ []
-
 abbrev pub pickOf : List ℕ → List ℕ → Kind → Kind → Kind
 pickOf w name this other = cond (sameBytes w name) this other
 
 unfoldable pub whichSingle : List ℕ → Kind → Kind
-whichSingle w other = pickOf w wordBit kind.Bit (pickOf w wordBucket kind.Bucket (pickOf w wordHorizon kind.Horizon (pickOf w wordSame kind.Same (pickOf w wordPlace kind.Place other))))
+whichSingle w other = pickOf w (spell "bit") kind.Bit (pickOf w (spell "bucket") kind.Bucket (pickOf w (spell "horizon") kind.Horizon (pickOf w (spell "same") kind.Same (pickOf w (spell "place") kind.Place other))))
 
 unfoldable pub whichCall : List ℕ → Kind → Kind
-whichCall w other = pickOf w wordTurn kind.Turn (pickOf w wordJudging kind.Judging (pickOf w wordPosition kind.Position (pickOf w wordClaim kind.Claim (pickOf w wordTakeout kind.TakeOut (pickOf w wordCheck kind.Check (pickOf w wordDrop kind.Drop (pickOf w wordFresh kind.Fresh other)))))))
+whichCall w other = pickOf w (spell "turn") kind.Turn (pickOf w (spell "judging") kind.Judging (pickOf w (spell "position") kind.Position (pickOf w (spell "claim") kind.Claim (pickOf w (spell "takeout") kind.TakeOut (pickOf w (spell "check") kind.Check (pickOf w (spell "drop") kind.Drop (pickOf w (spell "fresh") kind.Fresh other)))))))
 
 unfoldable pub whichLent : List ℕ → Kind → Kind
-whichLent w other = pickOf w wordEnds kind.Ends (pickOf w wordCell kind.Cell (pickOf w wordRow kind.Row (pickOf w wordLend kind.Lend (pickOf w wordDigest kind.Digest (pickOf w wordWatch kind.Watch other)))))
+whichLent w other = pickOf w (spell "ends") kind.Ends (pickOf w (spell "cell") kind.Cell (pickOf w (spell "row") kind.Row (pickOf w (spell "lend") kind.Lend (pickOf w (spell "digest") kind.Digest (pickOf w (spell "watch") kind.Watch other)))))
 
 unfoldable pub whichOf : List ℕ → Kind
 whichOf w = whichCall w (whichLent w (whichSingle w kind.Unknown))

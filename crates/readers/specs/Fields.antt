@@ -1,10 +1,10 @@
 -- The fields of a line, read in turn; the first thing that is wrong stays. Definitions only.
 use Prim.Native.Nat.{ℕ, _-_, _^_}
 use mathlib.Core.Bool.{Bool, true, false, cond}
-use mathlib.Core.List.{List, [], _∷_}
+use mathlib.Core.List.{List}
 use lib.Dec.{eqb}
 use lib.Ieee as Ieee
-use Rattle.fields.specs.Text.{fieldAt, partOf, sameBytes}
+use Rattle.fields.specs.Text.{spell, fieldAt, partOf, sameBytes}
 use Rattle.fields.specs.declared.Field.{Field}
 use Rattle.fields.specs.declared.Field.the-variants.{At, Stray, End}
 use Rattle.numbers.specs.Numbers.{wholeOf, signedOf}
@@ -96,9 +96,9 @@ byteOf w = record { n = w .n; place = w .place }
 unfoldable pub byteAt : List ℕ → Place → Name → Byte
 byteAt t p n = byteOf (wholeAt t p 255 n)
 
--- `-` (45) is none
+-- `-` is none
 abbrev pub isDash : List ℕ → Bool
-isDash s = sameBytes s (45 ∷ [])
+isDash s = sameBytes s (spell "-")
 
 unfoldable pub maybeAt : List ℕ → Place → ℕ → Name → Maybe
 maybeAt t p most n =

@@ -7,6 +7,7 @@ use native.Mathlib.Omega.{arith}
 use borrow.Author.Tests.{leb-true}
 use lib.Dec.{T, leb}
 use lib.ListN.{length, drop, replicate, length-append, length-replicate}
+use Rattle.fields.specs.Text.{spell}
 use Rattle.table.specs.Machine.{Key}
 use Rattle.table.specs.Rows.{Watch}
 use Rattle.table.specs.Questions.{question1, question2}
@@ -17,7 +18,7 @@ use Rattle.turns.specs.Turn.{startOf, following, named, namedBy, isUsed, keysOf
 use Rattle.print.specs.Print.{decimalText}
 use Rattle.grammar.specs.declared.Line.{Line}
 use Rattle.grammar.specs.declared.Line.the-variants as line
-use Rattle.answers.specs.Words.{spell, _then_}
+use Rattle.answers.specs.Words.{_then_}
 use Rattle.answers.specs.Answers.{keyText}
 use Rattle.answers.proofs.Lengths.{decimal-length, bytes-length}
 use Rattle.rounds.specs.Rounds.{keysText, turnedText, tickText, served, turnText, lineText}

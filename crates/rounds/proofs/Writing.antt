@@ -8,6 +8,7 @@ use mathlib.Core.List.{List, [], _∷_, append-assoc}
 use lib.ListN.{length, getD, take, drop, replicate, length-replicate, List·getD-eq-default}
 use lib.Seq.{getD-drop, length-take-le}
 use borrow.Author.Tests.{lt-ltb, le-ltb, ltb-true}
+use Rattle.fields.specs.Text.{spell}
 use Rattle.table.specs.Rows.{Watch}
 use Rattle.table.proofs.Tests.{byBool}
 use Rattle.receiver.specs.declared.Part.{Part}
@@ -23,7 +24,7 @@ use Rattle.lending.specs.Lendings.{Within, lentTo}
 use Rattle.lending.specs.declared.Size.{Size}
 use Rattle.grammar.specs.declared.Line.{Line}
 use Rattle.grammar.specs.declared.Line.the-variants as line
-use Rattle.answers.specs.Words.{spell, _then_}
+use Rattle.answers.specs.Words.{_then_}
 use Rattle.answers.specs.Answers.{bytesText, keyText, Wrote}
 use Rattle.answers.proofs.Writing.{wrote-put, wrote-none, wrote-then, wrote-is, bytes-none, bytes-on}
 use Rattle.rounds.specs.Rounds.{keysText, turnedText, tickText, served, turnText, lineText}

@@ -4,6 +4,7 @@ use mathlib.Core.Bool.{cond}
 use mathlib.Core.List.{List, []}
 use lib.Dec.{ltb}
 use lib.ListN.{drop, replicate}
+use Rattle.fields.specs.Text.{spell}
 use Rattle.table.specs.Rows.{Watch}
 use Rattle.receiver.specs.declared.Part.{Part}
 use Rattle.rows.specs.Read.{form}
@@ -13,7 +14,7 @@ use Rattle.turns.specs.Turn.{Tick, turnOn}
 use Rattle.print.specs.Print.{decimalText}
 use Rattle.grammar.specs.declared.Line.{Line}
 use Rattle.grammar.specs.declared.Line.the-variants as line
-use Rattle.answers.specs.Words.{spell, _then_}
+use Rattle.answers.specs.Words.{_then_}
 use Rattle.answers.specs.Answers.{keyText}
 
 -- the first n keys of a list, a space before each

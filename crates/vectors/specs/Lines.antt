@@ -1,11 +1,11 @@
 -- What a line of the list says. Definitions only.
 use Prim.Native.Nat.{ℕ, zero, suc, _+_, _-_, _^_}
 use mathlib.Core.Bool.{Bool, true, false, _&&_, cond}
-use mathlib.Core.List.{List, [], _∷_}
+use mathlib.Core.List.{List}
 use lib.IntN.{pos}
 use lib.ListN.{length}
 use lib.Dec.{eqb}
-use Rattle.fields.specs.Text.{firstOf, partOf, sameBytes}
+use Rattle.fields.specs.Text.{spell, firstOf, partOf, sameBytes}
 use Rattle.numbers.specs.Numbers.{wholeOf, signedOf}
 use Rattle.numbers.specs.declared.Number.{Number}
 use Rattle.numbers.specs.declared.Number.the-variants as number
@@ -36,14 +36,14 @@ wholeBy (number.Is n) = record { tag = 1; n = n; good = true }
 wholeBy number.Bad = record { tag = 1; n = 0; good = false }
 
 unfoldable pub wholeIn : List ℕ → Whole
-wholeIn s = cond (sameBytes s (45 ∷ [])) (record { tag = 0; n = 0; good = true }) (wholeBy (wholeOf (2 ^ 64 - 1) s))
+wholeIn s = cond (sameBytes s (spell "-")) (record { tag = 0; n = 0; good = true }) (wholeBy (wholeOf (2 ^ 64 - 1) s))
 
 abbrev pub metresBy : Signed → Metres
 metresBy (signed.Is m) = record { tag = 1; m = m; good = true }
 metresBy signed.Bad = record { tag = 1; m = pos 0; good = false }
 
 unfoldable pub metresIn : List ℕ → Metres
-metresIn s = cond (sameBytes s (45 ∷ [])) (record { tag = 0; m = pos 0; good = true }) (metresBy (signedOf s))
+metresIn s = cond (sameBytes s (spell "-")) (record { tag = 0; m = pos 0; good = true }) (metresBy (signedOf s))
 
 -- judging EVEN ODD SITE ALT NOW_MS AIRCRAFT ANSWER, and no more
 abbrev pub rowOf : List ℕ → Row

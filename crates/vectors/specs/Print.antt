@@ -4,7 +4,7 @@ use mathlib.Core.Path.{_≡_}
 use mathlib.Core.Bool.{cond}
 use mathlib.Core.List.{List, [], _∷_, _++_}
 use lib.ListN.{length, replicate}
-use Rattle.fields.specs.Text.{partOf, sameBytes}
+use Rattle.fields.specs.Text.{spell, partOf, sameBytes}
 use Rattle.print.specs.Print.{decimalText, putIn, putEnd}
 use Rattle.vectors.specs.Lines.{wordOf}
 use Rattle.vectors.specs.Replays.{wordCount}
@@ -24,16 +24,16 @@ Put out at texts after end = (end ≡ endAll out at texts) × (after ≡ putAll 
 
 -- the words between the numbers
 abbrev pub textColon : List ℕ
-textColon = 58 ∷ 32 ∷ []
+textColon = spell ": "
 
 abbrev pub textVectors : List ℕ
-textVectors = 32 ∷ 118 ∷ 101 ∷ 99 ∷ 116 ∷ 111 ∷ 114 ∷ 115 ∷ 44 ∷ 32 ∷ []
+textVectors = spell " vectors, "
 
 abbrev pub textDiffer : List ℕ
-textDiffer = 32 ∷ 100 ∷ 105 ∷ 102 ∷ 102 ∷ 101 ∷ 114 ∷ 44 ∷ 32 ∷ []
+textDiffer = spell " differ, "
 
 abbrev pub textUnread : List ℕ
-textUnread = 32 ∷ 117 ∷ 110 ∷ 114 ∷ 101 ∷ 97 ∷ 100 ∷ 10 ∷ []
+textUnread = spell " unread\n"
 
 -- NAME: N vectors, N differ, N unread, and a line end
 abbrev pub countText : ℕ → List ℕ → List (List ℕ)

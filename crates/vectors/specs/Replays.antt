@@ -2,10 +2,10 @@
 use Prim.Native.Nat.{ℕ, _+_, _%_, _^_}
 use mathlib.Core.Path.{_≡_}
 use mathlib.Core.Bool.{Bool, _&&_, cond}
-use mathlib.Core.List.{List, [], _∷_}
+use mathlib.Core.List.{List}
 use lib.ListN.{set, replicate}
 use lib.Dec.{eqb, ltb}
-use Rattle.fields.specs.Text.{sameBytes}
+use Rattle.fields.specs.Text.{spell, sameBytes}
 use Rattle.lines.specs.Lines.{bytesOf}
 use Rattle.lines.specs.declared.Line.{Line}
 use Rattle.lines.specs.declared.Line.the-variants.{At, TooLong, Nothing}
@@ -67,16 +67,16 @@ judgingAfter d t = judgingBy d (rowOf t)
 
 -- the words
 abbrev pub wordCell : List ℕ
-wordCell = 99 ∷ 101 ∷ 108 ∷ 108 ∷ []
+wordCell = spell "cell"
 
 abbrev pub wordJudging : List ℕ
-wordJudging = 106 ∷ 117 ∷ 100 ∷ 103 ∷ 105 ∷ 110 ∷ 103 ∷ []
+wordJudging = spell "judging"
 
 abbrev pub wordCount : List ℕ
-wordCount = 99 ∷ 111 ∷ 117 ∷ 110 ∷ 116 ∷ []
+wordCount = spell "count"
 
 abbrev pub wordComment : List ℕ
-wordComment = 35 ∷ []
+wordComment = spell "#"
 
 unfoldable pub after : Done → List ℕ → Done
 after d t =
