@@ -52,7 +52,7 @@ pub struct Args {
 
 /// How it is called.
 pub const USAGE: &str =
-    "compare [--seed N] [--count N] [--judgings N] [--calls N] [--full N] [--ticks N] [--endurance N] [--seconds N] [--only CHECK,CHECK..] [--all]
+    "compare [--seed N] [--count N] [--judgings N] [--calls N] [--full N] [--ticks N] [--endurance N] [--seconds N] [--only CHECK,CHECK.. | --except CHECK,CHECK..] [--all]
         compare --input place|same|horizon BITS..
         compare [--seed N] --write-vectors FOLDER
         compare --replay FILE
@@ -66,6 +66,7 @@ pub const USAGE: &str =
   --endurance N  random calls on random watches (200,000)
   --seconds N    the endurance ends after so many seconds at the latest
   --only LIST    of place, coverage, same, horizon, range, judge, lists, full, stored, turns, endurance
+  --except LIST  all checks but these
   --all          a check that is skipped counts as failed
   --input ..     shows both answers to one input, its floats as 16 hex digits each, as a failure prints them
   --write-vectors FOLDER writes the stored answers of the original below the repository's folder: samples/vectors and what the program `vectors` replays
@@ -126,11 +127,13 @@ pub fn parse(words: impl Iterator<Item = String>) -> Result<Args, String> {
                     bits.ok_or(format!("--input {value}: {floats} floats of 16 hex digits"))?;
                 args.input = Some((value, bits));
             }
-            "--only" => {
-                args.only = value.split(',').map(String::from).collect();
-                if let Some(name) = args.only.iter().find(|n| !CHECKS.contains(&n.as_str())) {
-                    return Err(format!("--only: there is no check {name}"));
+            "--only" | "--except" => {
+                let named: Vec<&str> = value.split(',').collect();
+                if let Some(name) = named.iter().find(|name| !CHECKS.contains(name)) {
+                    return Err(format!("{word}: there is no check {name}"));
                 }
+                let meant = |check: &&str| named.contains(check) == (word == "--only");
+                args.only = CHECKS.into_iter().filter(meant).map(String::from).collect();
             }
             _ => return Err(format!("{word}: not known")),
         }
@@ -151,6 +154,8 @@ mod tests {
         let args = parse(words("--seed 7 --count 10,000 --only place,same --all")).expect("good");
         assert_eq!((args.seed, args.count, args.all), (7, 10_000, true));
         assert_eq!(args.only, ["place", "same"]);
+        let args = parse(words("--except stored,full,turns,lists,judge,endurance")).expect("good");
+        assert_eq!(args.only, ["place", "coverage", "same", "horizon", "range"]);
         let args = parse(words("")).expect("good");
         assert_eq!(args.only, CHECKS);
     }
@@ -160,6 +165,7 @@ mod tests {
         assert!(parse(words("--seed")).is_err());
         assert!(parse(words("--count -3")).is_err());
         assert!(parse(words("--only places")).is_err());
+        assert!(parse(words("--except places")).is_err());
         assert!(parse(words("--speed 3")).is_err());
         assert!(parse(words("--input horizon 3ff0000000000000")).is_err());
         assert!(parse(words("--input range 3ff0000000000000 3ff0000000000000")).is_err());
