@@ -1,4 +1,4 @@
--- `flat::altitude_at` meets its contract: each way out is a law that is cited below, at what the code found.
+-- `packing::altitude_at` meets its contract: each way out is a law that is cited below, at what the code found.
 use Rattle.packing.proofs.Opening.{absent, altitude-some}
 use Rattle.packing.specs.Words.{altitudeOf}
 use borrow.Author.Needs.{needs}

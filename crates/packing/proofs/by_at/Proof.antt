@@ -1,4 +1,4 @@
--- `flat::by_at` meets its contract: each way out is a law that is cited below, at what the code found.
+-- `packing::by_at` meets its contract: each way out is a law that is cited below, at what the code found.
 use Rattle.packing.proofs.Opening.{absent, by-some}
 use Rattle.packing.specs.Words.{byOf}
 use borrow.Author.Needs.{needs}

@@ -1,4 +1,4 @@
--- `flat::counts_fit` meets its contract: each way out is a law that is cited below, at what the code found.
+-- `packing::counts_fit` meets its contract: each way out is a law that is cited below, at what the code found.
 use Rattle.packing.proofs.Opening.{all-three}
 use borrow.Author.Needs.{needs}
 use Rattle.packing.proofs.counts_fit.Statement.{statement}

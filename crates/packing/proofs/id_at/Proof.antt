@@ -1,4 +1,4 @@
--- `flat::id_at` meets its contract: each way out is a law that is cited below, at what the code found.
+-- `packing::id_at` meets its contract: each way out is a law that is cited below, at what the code found.
 use Rattle.packing.proofs.Opening.{absent, id-some}
 use Rattle.packing.specs.Words.{idOf}
 use borrow.Author.Needs.{needs}

@@ -1,4 +1,4 @@
--- `flat::key_at` meets its contract: each way out is a law that is cited below, at what the code found.
+-- `packing::key_at` meets its contract: each way out is a law that is cited below, at what the code found.
 use Rattle.packing.proofs.Keys.{key-opens}
 use borrow.Author.Needs.{needs}
 use Rattle.packing.proofs.key_at.Statement.{statement}

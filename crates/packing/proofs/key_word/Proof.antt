@@ -1,4 +1,4 @@
--- `flat::key_word` meets its contract: each way out is a law that is cited below, at what the code found.
+-- `packing::key_word` meets its contract: each way out is a law that is cited below, at what the code found.
 use Rattle.packing.proofs.Keys.{word-of-eight, bytes-of-eight}
 use borrow.Author.Needs.{needs}
 use Rattle.packing.proofs.key_word.Statement.{statement}

@@ -1,4 +1,4 @@
--- `flat::last_of` meets its contract: each way out is a law that is cited below, at what the code found.
+-- `packing::last_of` meets its contract: each way out is a law that is cited below, at what the code found.
 use Rattle.packing.proofs.Opening.{last-first, last-second, last-third}
 use borrow.Author.Needs.{needs}
 use Rattle.packing.proofs.last_of.Statement.{statement}

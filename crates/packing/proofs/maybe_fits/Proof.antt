@@ -1,4 +1,4 @@
--- `flat::maybe_fits` meets its contract: each way out is a law that is cited below, at what the code found.
+-- `packing::maybe_fits` meets its contract: each way out is a law that is cited below, at what the code found.
 use Rattle.packing.proofs.Opening.{maybe-none, maybe-some, maybe-other}
 use borrow.Author.Needs.{needs}
 use Rattle.packing.proofs.maybe_fits.Statement.{statement}

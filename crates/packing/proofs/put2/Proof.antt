@@ -1,4 +1,4 @@
--- `flat::put2` meets its contract: each way out is a law that is cited below, at what the code found.
+-- `packing::put2` meets its contract: each way out is a law that is cited below, at what the code found.
 use Rattle.packing.proofs.Runs.{second-in, two}
 use borrow.Author.Needs.{needs}
 use Rattle.packing.proofs.put2.Statement.{statement}

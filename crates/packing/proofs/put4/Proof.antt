@@ -1,4 +1,4 @@
--- `flat::put4` meets its contract: each way out is a law that is cited below, at what the code found.
+-- `packing::put4` meets its contract: each way out is a law that is cited below, at what the code found.
 use Rattle.packing.proofs.Runs.{four}
 use borrow.Author.Needs.{needs}
 use Rattle.packing.proofs.put4.Statement.{statement}

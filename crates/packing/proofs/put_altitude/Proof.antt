@@ -1,4 +1,4 @@
--- `flat::put_altitude` meets its contract: each way out is a law that is cited below, at what the code found.
+-- `packing::put_altitude` meets its contract: each way out is a law that is cited below, at what the code found.
 use Rattle.packing.proofs.Closing.{puts, metres-words, in-range}
 use Rattle.packing.specs.Words.{altitudeWords}
 use Rattle.packing.specs.Ranges.{AltitudeIn}

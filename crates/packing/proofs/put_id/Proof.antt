@@ -1,4 +1,4 @@
--- `flat::put_id` meets its contract: each way out is a law that is cited below, at what the code found.
+-- `packing::put_id` meets its contract: each way out is a law that is cited below, at what the code found.
 use Rattle.packing.proofs.Closing.{puts, in-range}
 use Rattle.packing.specs.Words.{idWords}
 use Rattle.packing.specs.Ranges.{IdIn}

@@ -1,4 +1,4 @@
--- `flat::put_key` meets its contract: each way out is a law that is cited below, at what the code found.
+-- `packing::put_key` meets its contract: each way out is a law that is cited below, at what the code found.
 use Rattle.packing.proofs.Keys.{key-puts, key-in}
 use borrow.Author.Needs.{needs}
 use Rattle.packing.proofs.put_key.Statement.{statement}

@@ -1,4 +1,4 @@
--- `flat::put_run` meets its contract: each way out is a law that is cited below, at what the code found.
+-- `packing::put_run` meets its contract: each way out is a law that is cited below, at what the code found.
 use Rattle.packing.proofs.Closing.{run-puts}
 use borrow.Author.Needs.{needs}
 use Rattle.packing.proofs.put_run.Statement.{statement}

@@ -1,4 +1,4 @@
--- `flat::put_site` meets its contract: each way out is a law that is cited below, at what the code found.
+-- `packing::put_site` meets its contract: each way out is a law that is cited below, at what the code found.
 use Rattle.packing.proofs.Closing.{site-puts, in-range, site-puts-none}
 use Rattle.packing.specs.Ranges.{SiteIn}
 use borrow.Author.Needs.{needs}

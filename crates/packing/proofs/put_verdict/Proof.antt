@@ -1,4 +1,4 @@
--- `flat::put_verdict` meets its contract: each way out is a law that is cited below, at what the code found.
+-- `packing::put_verdict` meets its contract: each way out is a law that is cited below, at what the code found.
 use Rattle.packing.proofs.Closing.{puts, in-range, never-puts}
 use Rattle.packing.specs.Words.{verdictWords}
 use Rattle.packing.specs.Ranges.{VerdictIn}

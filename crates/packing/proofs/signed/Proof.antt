@@ -1,4 +1,4 @@
--- `flat::signed` meets its contract: each way out is a law that is cited below, at what the code found.
+-- `packing::signed` meets its contract: each way out is a law that is cited below, at what the code found.
 use Rattle.packing.proofs.Signs.{back-fits, reads-back}
 use mathlib.Core.Path.{ap}
 use mir.Syntax.{w32}

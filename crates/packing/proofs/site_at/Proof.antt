@@ -1,4 +1,4 @@
--- `flat::site_at` meets its contract: each way out is a law that is cited below, at what the code found.
+-- `packing::site_at` meets its contract: each way out is a law that is cited below, at what the code found.
 use Rattle.packing.proofs.Opening.{absent, site-some}
 use Rattle.packing.specs.Words.{siteOf}
 use borrow.Author.Needs.{needs}

@@ -1,4 +1,4 @@
--- `flat::site_fits` meets its contract: each way out is a law that is cited below, at what the code found.
+-- `packing::site_fits` meets its contract: each way out is a law that is cited below, at what the code found.
 use Rattle.packing.proofs.Opening.{site-fits-none, site-fits-some, site-fits-other}
 use borrow.Author.Needs.{needs}
 use Rattle.packing.proofs.site_fits.Statement.{statement}

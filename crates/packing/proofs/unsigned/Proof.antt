@@ -1,4 +1,4 @@
--- `flat::unsigned` meets its contract: each way out is a law that is cited below, at what the code found.
+-- `packing::unsigned` meets its contract: each way out is a law that is cited below, at what the code found.
 use Rattle.packing.proofs.Signs.{minus-fits, minus-casts, minus-small, plus-casts, minus-bits, plus-bits}
 use borrow.Author.Needs.{needs}
 use Rattle.packing.proofs.unsigned.Statement.{statement}

@@ -1,4 +1,4 @@
--- `flat::verdict_at` meets its contract: each way out is a law that is cited below, at what the code found.
+-- `packing::verdict_at` meets its contract: each way out is a law that is cited below, at what the code found.
 use Rattle.packing.proofs.Opening.{absent, verdict-some}
 use Rattle.packing.specs.Words.{verdictOf}
 use borrow.Author.Needs.{needs}

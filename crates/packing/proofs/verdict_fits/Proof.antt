@@ -1,4 +1,4 @@
--- `flat::verdict_fits` meets its contract: each way out is a law that is cited below, at what the code found.
+-- `packing::verdict_fits` meets its contract: each way out is a law that is cited below, at what the code found.
 use Rattle.packing.proofs.Opening.{verdict-fits-none, verdict-fits-some}
 use borrow.Author.Needs.{needs}
 use Rattle.packing.proofs.verdict_fits.Statement.{statement}

@@ -1,4 +1,4 @@
--- `flat::whole` meets its contract: each way out is a law that is cited below, at what the code found.
+-- `packing::whole` meets its contract: each way out is a law that is cited below, at what the code found.
 use Rattle.packing.proofs.Opening.{below64}
 use borrow.Author.Needs.{needs}
 use Rattle.packing.proofs.whole.Statement.{statement}

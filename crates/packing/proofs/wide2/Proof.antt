@@ -1,4 +1,4 @@
--- `flat::wide2` meets its contract: each way out is a law that is cited below, at what the code found.
+-- `packing::wide2` meets its contract: each way out is a law that is cited below, at what the code found.
 use Rattle.packing.proofs.Opening.{wide2-is}
 use borrow.Author.Needs.{needs}
 use Rattle.packing.proofs.wide2.Statement.{statement}

@@ -1,4 +1,4 @@
--- `flat::wide32` meets its contract: each way out is a law that is cited below, at what the code found.
+-- `packing::wide32` meets its contract: each way out is a law that is cited below, at what the code found.
 use Rattle.packing.proofs.Opening.{below32}
 use borrow.Author.Needs.{needs}
 use Rattle.packing.proofs.wide32.Statement.{statement}

@@ -1,4 +1,4 @@
--- `flat::word` meets its contract: each way out is a law that is cited below, at what the code found.
+-- `packing::word` meets its contract: each way out is a law that is cited below, at what the code found.
 use native.Mathlib.Omega.{arith}
 use Rattle.packing.specs.Words.{wordOf}
 use borrow.Author.Needs.{needs}

@@ -1,4 +1,4 @@
--- `flat::zeros4` meets its contract: each way out is a law that is cited below, at what the code found.
+-- `packing::zeros4` meets its contract: each way out is a law that is cited below, at what the code found.
 use Rattle.packing.proofs.Opening.{zeros4-is}
 use borrow.Author.Needs.{needs}
 use Rattle.packing.proofs.zeros4.Statement.{statement}

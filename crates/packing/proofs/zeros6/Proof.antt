@@ -1,4 +1,4 @@
--- `flat::zeros6` meets its contract: each way out is a law that is cited below, at what the code found.
+-- `packing::zeros6` meets its contract: each way out is a law that is cited below, at what the code found.
 use Rattle.packing.proofs.Opening.{zeros6-is}
 use borrow.Author.Needs.{needs}
 use Rattle.packing.proofs.zeros6.Statement.{statement}
