@@ -13,12 +13,13 @@ use Rattle.cells.specs.Cells.{countOf, occupiedWord}
 use Rattle.cells.specs.Passes.{pass, sumOf}
 use Rattle.cells.proofs.Passes.{pass-all}
 use Rattle.view.specs.declared.Far.{Far}
+use Rattle.view.specs.View.{occupiedAmong}
 use Rattle.plane.specs.Plane.{square, fromSite, steps}
 use Rattle.near_field.specs.Near.{cellsWithin}
 use Rattle.near_field.proofs.Sorted.{sumWhere, countWhere, length-where, within}
 use Rattle.nearest.specs.Nothing.{Place, nearestOf, typicalOf, positionsOf, km, edges, halfway, cellPlace, binPlace, heard, placesHeard, places, positionsIn}
 use Rattle.nearest.specs.Counted.{positionsAmong, cellStep, binStep}
-use Rattle.nothing_near.specs.Counted.{occupiedAmong, nearCells}
+use Rattle.nothing_near.specs.Counted.{nearCells}
 use Rattle.nothing_near.proofs.Weights.{sum-append, sum-one, total-where}
 use Rattle.nearest.proofs.Sums.{sum-next}
 use Rattle.nearest.proofs.Steps.{every, every-at, limit, steps-within}

@@ -5,18 +5,11 @@ use mathlib.Core.Path.{_≡_}
 use mathlib.Core.Bool.{Bool}
 use mathlib.Core.List.{List}
 use lib.Dec.{leb}
-use lib.ListN.{getD}
-use Rattle.cells.specs.Cells.{occupiedWord}
-use Rattle.cells.specs.Passes.{howMany}
 use Rattle.near_field.specs.Near.{cellsWithin}
 use Rattle.view.specs.declared.Far.{Far}
 use Rattle.nearest.specs.declared.Nearest.{Nearest}
 use Rattle.nearest.specs.Nothing.{km, placesHeard, positionsIn}
 use Rattle.nearest.specs.Counted.{allSteps, below, twoNearest}
-
--- how many of the first n words are occupied
-unfoldable pub occupiedAmong : List ℕ → ℕ → ℕ
-occupiedAmong words n = howMany (λ (i : ℕ). occupiedWord (getD words i 0)) n
 
 -- how many occupied cells are under 60 km away (no bin is)
 unfoldable pub nearCells : List ℕ → ℕ

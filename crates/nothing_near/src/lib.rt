@@ -10,7 +10,7 @@ ghost use Rattle.plane.specs.Plane.{steps};
 ghost use Rattle.view.specs.View.{Unheard};
 ghost use Rattle.nearest.specs.Nothing.{km, placesHeard, places, third, fromThird, positionsIn, typicalIn, nothingNear};
 ghost use Rattle.nearest.specs.Counted.{below};
-ghost use Rattle.nothing_near.specs.Counted.{occupiedAmong, nearCells, reachedAt, Kept};
+ghost use Rattle.nothing_near.specs.Counted.{nearCells, reachedAt, Kept};
 use near_field::near;
 use nearest::Empty;
 use nearest::Nearest;
@@ -23,26 +23,12 @@ use nearest::positions_among;
 use nearest::with_bins;
 use view::Far;
 
-// How many of some words are occupied.
-fn occupied_among(words: &[u32]) -> u32
-    requires { ⌜ length (now words) ≤ 1600 ⌝ }
-    ensures { λ r. ⌜ (r ≡ occupiedAmong (now (words .entry)) (length (now (words .entry)))) × (r ≤ 1600) ⌝ }
-{
-    let mut n: u32 = 0;
-    let mut i = 0;
-    while i < words.len() {
-        n += plane::part(cells::occupied(words[i]), 1);
-        i += 1;
-    }
-    n
-}
-
 // How many places were heard.
 pub fn places_in(grid: &[u32; 1600], far: Far) -> u32
     ensures { λ r. ⌜ r ≡ places (now (grid .entry)) far ⌝ }
 {
     let bins = far.cells;
-    occupied_among(grid) + occupied_among(&bins)
+    view::occupied_among(grid) + view::occupied_among(&bins)
 }
 
 // How many occupied cells are under 60 km away, but no more than three. Rows 0 to 7 and 32 to 39 have none.

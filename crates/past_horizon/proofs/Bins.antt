@@ -2,7 +2,7 @@
 use mathlib.Core.Path.{_≡_, refl, sym, ap, _∙_}
 use mathlib.Core.Bool.{Bool, true, false, _&&_, cond}
 use mathlib.Core.List.{List, [], _∷_}
-use Prim.Native.Nat.{ℕ, suc, _+_, _-_, _*_, _/_, _≤_, _<_}
+use Prim.Native.Nat.{ℕ, zero, suc, _+_, _-_, _*_, _/_, _≤_, _<_}
 use native.Mathlib.Omega.{arith}
 use borrow.Author.Tests.{le-leb, lt-leb}
 use lib.Bits.{bitOr}
@@ -20,7 +20,8 @@ use Rattle.cells.specs.declared.Ceiling.the-variants.{Metres, NoAltitude}
 use Rattle.cells.specs.Passes.{pass}
 use Rattle.cells.proofs.Passes.{pass-next}
 use Rattle.view.specs.declared.Far.{Far}
-use Rattle.past_horizon.specs.Horizon.{edgeOf, underCeiling, binPast, excesses, pastPositions, pastAircraft, enoughPast, middle, horizonPast}
+use Rattle.view.specs.View.{occupiedAmong}
+use Rattle.past_horizon.specs.Horizon.{edgeOf, underCeiling, binPast, withExcess, excesses, pastPositions, pastAircraft, enoughPast, middle, horizonPast}
 
 -- ---- one bin
 module _ (w j : ℕ) (a : Float) where
@@ -95,6 +96,23 @@ all bins a xs at positions aircraft i z s e =
       sum = s .sum ∙ ap (pastPositions bins a) e;
       marks = s .marks ∙ ap (pastAircraft bins a) e;
     }
+
+-- ---- a bin that is past is occupied: no more are past than are occupied
+one-at-most : (occupied : Bool) (p : Past) (l : List Float) (k : ℕ) → length l ≤ k → length (withExcess (cond occupied p No) l) ≤ cond occupied (k + 1) k
+one-at-most true (By km) l k h = omega arith
+one-at-most true No l k h = omega arith
+one-at-most false p l k h = h
+
+past-occupied : (bins : List ℕ) (a : Float) (n : ℕ) → length (excesses bins a n) ≤ occupiedAmong bins n
+unfolding excesses occupiedAmong binPast pass
+past-occupied bins a zero = omega arith
+past-occupied bins a (suc n) =
+    let w = getD bins n 0 in
+    one-at-most (occupiedWord w) (underCeiling (ceiling (lowOf w)) n a) (excesses bins a n) (occupiedAmong bins n) (past-occupied bins a n)
+
+pub too-few-occupied : (far : Far) (a : Float) → occupiedAmong (far .cells) 72 < 3 → No ≡ horizonPast far a
+unfolding horizonPast enoughPast
+too-few-occupied far a h = rw (lt-leb 3 (length (excesses (far .cells) a 72)) (omega (arith, past-occupied (far .cells) a 72)))
 
 -- ---- the four answers
 -- of three tests the second fails, or the third

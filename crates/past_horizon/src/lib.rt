@@ -35,7 +35,7 @@ fn bin_past(w: u32, bin: usize, antenna_root: f64) -> Past
 
 // The middle excess of the bins past the horizon, if enough are: three bins, three aircraft, one position in twenty. The excesses
 // fill an array from its end.
-pub fn past_horizon(site: Site, far: Far) -> Past
+fn middle_excess(site: Site, far: Far) -> Past
     ensures { λ r. ⌜ r ≡ pastHorizon site far ⌝ }
 {
     let antenna_root = horizon::root_of(sites::antenna_m(site));
@@ -70,4 +70,14 @@ pub fn past_horizon(site: Site, far: Far) -> Past
         return Past::No;
     }
     Past::By(rank::nth(&xs[at..], n / 2))
+}
+
+// The same; where fewer than three bins are occupied no root need be taken.
+pub fn past_horizon(site: Site, far: Far) -> Past
+    ensures { λ r. ⌜ r ≡ pastHorizon site far ⌝ }
+{
+    if view::occupied_among(&far.cells) < 3 {
+        return Past::No;
+    }
+    middle_excess(site, far)
 }

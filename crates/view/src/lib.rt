@@ -6,7 +6,7 @@ ghost use Rattle.cells.specs.Passes.{some};
 ghost use Prim.Native.Nat.{_+_, _≤_, _<_};
 ghost use lib.Dec.{eqb};
 ghost use lib.ListN.{length};
-ghost use Rattle.view.specs.View.{kept, mergedOf, mergedAt, gridOf, heardAt, heardIn, binsOf, positionsOf, farOf};
+ghost use Rattle.view.specs.View.{kept, mergedOf, mergedAt, gridOf, heardAt, heardIn, binsOf, positionsOf, farOf, occupiedAmong};
 
 pub enum EpochId {
     Id(u64),
@@ -121,6 +121,22 @@ fn positions_in(bins: [u32; 72]) -> u32
         i += 1;
     }
     sum
+}
+
+// How many of some words are occupied.
+pub fn occupied_among(words: &[u32]) -> u32
+    requires { ⌜ length (now words) ≤ 1600 ⌝ }
+    ensures { λ r. ⌜ (r ≡ occupiedAmong (now (words .entry)) (length (now (words .entry)))) × (r ≤ 1600) ⌝ }
+{
+    let mut n: u32 = 0;
+    let mut i = 0;
+    while i < words.len() {
+        if cells::occupied(words[i]) {
+            n += 1;
+        }
+        i += 1;
+    }
+    n
 }
 
 // The merged far bins with their position total.

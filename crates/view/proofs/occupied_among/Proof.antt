@@ -1,15 +1,16 @@
--- The loop counts what `occupiedAmong` does.
-use mathlib.Core.Path.{_≡_, refl, sym}
-use Prim.Native.Nat.{ℕ, _-_, _≤_}
+-- The loop counts what `occupiedAmong` does: a word more counts one where it is occupied.
+use mathlib.Core.Path.{_≡_, sym, _∙_, ap}
+use mathlib.Core.Bool.{Bool, cond}
+use mathlib.Core.Logic.{⊎-elim}
+use Prim.Native.Nat.{ℕ, _+_, _-_, _≤_}
 use native.Mathlib.Omega.{arith}
 use borrow.Author.Needs.{needs}
 use lib.ListN.{length, getD}
 use Rattle.cells.proofs.Passes.{pass-none, sum-step}
 use Rattle.cells.specs.Cells.{occupiedWord}
-use Rattle.plane.proofs.Same.{part-of}
-use Rattle.nothing_near.specs.Counted.{occupiedAmong}
-use Rattle.nothing_near.proofs.occupied_among.Statement.{statement}
-use Rattle.nothing_near.proofs.occupied_among.Tie as tie
+use Rattle.view.specs.View.{occupiedAmong}
+use Rattle.view.proofs.occupied_among.Statement.{statement}
+use Rattle.view.proofs.occupied_among.Tie as tie
 
 abbrev Inv-loop : tie.InvT-loop
 Inv-loop words n₀ i₀ n i = (i ≤ length words) × (n ≡ occupiedAmong words i) × (n ≤ i)
@@ -30,9 +31,6 @@ shared-slice-read-occupied c = search needs
 occupied-requires : tie.Need-occupied-requires Inv-loop μ-loop
 occupied-requires c κs = search needs
 
-part-requires : tie.Need-part-requires Inv-loop μ-loop
-part-requires c κs = search needs
-
 add-n : tie.Need-add-n Inv-loop μ-loop
 add-n c = search needs
 
@@ -42,9 +40,21 @@ add-i c = search needs
 loop-less : tie.Need-loop-less Inv-loop μ-loop
 loop-less c = search needs
 
-loop-again : tie.Need-loop-again Inv-loop μ-loop
+-- a turn counts r, 1 or 0
+counts : (c : tie.Joined1 Inv-loop μ-loop) (r : ℕ) → let l = c .before .before .before .before .loop in
+    r ≡ cond (c .before .occupied .result) 1 0 → c .if1 .n ≡ l .n + r → c .if1 .n ≡ occupiedAmong (c .before .before .before .before .before .before .args .words .now) (l .i + 1)
 unfolding occupiedAmong
-loop-again c = let l = c .before .before .before .before .loop in (search needs, sum-step (λ (k : ℕ). occupiedWord (getD (c .before .before .before .before .before .before .args .words .now) k 0)) (λ (k : ℕ). 1) (l .n) (c .part .result) (l .i) (l .inv .1) (part-of (c .part .ensures .0) (c .before .occupied .ensures) refl), omega arith)
+counts c r e h =
+    let l = c .before .before .before .before .loop in
+    let words = c .before .before .before .before .before .before .args .words .now in
+    h ∙ sum-step (λ (k : ℕ). occupiedWord (getD words k 0)) (λ (k : ℕ). 1) (l .n) r (l .i) (l .inv .1) (e ∙ ap (λ (b : Bool). cond b 1 0) (c .before .occupied .ensures))
+
+loop-again : tie.Need-loop-again Inv-loop μ-loop
+loop-again c =
+    ⊎-elim
+    (λ w. (search needs, counts c 1 (rw (w .0 .taken)) (w .1), omega (arith, w .1)))
+    (λ w. (search needs, counts c 0 (rw (w .0 .left)) (omega (arith, w .1)), omega (arith, w .1)))
+    (c .if1 .came)
 
 returns : tie.Need-returns Inv-loop μ-loop
 returns c = let l = c .before .loop in let e : l .i ≡ length (c .before .before .before .args .words .now) = omega arith in (rw e at (l .inv .1), omega arith)
@@ -59,7 +69,6 @@ occupied-among-spec =
     mul-occupied
     shared-slice-read-occupied
     occupied-requires
-    part-requires
     add-n
     add-i
     loop-less
