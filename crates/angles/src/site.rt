@@ -49,7 +49,7 @@ fn placed_at(lat1: Num, lat2: Num, dlat: Num, dlon: Num) -> u64
 }
 
 // A position seen from a site: both latitudes, and position less site.
-#[derive(Drop)]
+#[derive(Clone, Copy)]
 struct Seen {
     lat1: Num,
     lat2: Num,

@@ -7,7 +7,7 @@ ghost use Rattle.answers.specs.Phrases.{Blames};
 use crate::words;
 use readers::{Fault, Name};
 
-#[derive(Drop)]
+#[derive(Clone, Copy)]
 pub struct Blame {
     pub lead: usize,
     pub name: usize,

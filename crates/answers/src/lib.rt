@@ -1,4 +1,5 @@
 // What a line is answered, as a value and as text, put into a buffer that is lent. Which answer a line has is said above, in `session`.
+#![tactic(auto)]
 mod fault;
 mod phrase;
 pub mod put;
@@ -11,7 +12,7 @@ use lending::Size;
 use moves::Answer;
 use readers::Fault;
 
-#[derive(Drop)]
+#[derive(Clone, Copy)]
 pub enum Reply {
     Nothing,
     // The answer of a call stands beside it.
@@ -27,7 +28,7 @@ pub enum Reply {
 }
 
 // What a line is answered, and how large the watch is after it.
-#[derive(Drop)]
+#[derive(Clone, Copy)]
 pub struct Told {
     pub reply: Reply,
     pub answer: Answer,

@@ -10,21 +10,21 @@ use near_field::{Evidence, Judgment};
 use readers::Fault;
 use verdicts::CheckState;
 
-#[derive(Drop)]
+#[derive(Clone, Copy)]
 pub enum Form {
     Nothing,
     Decimal,
     Hex,
 }
 
-#[derive(Drop)]
+#[derive(Clone, Copy)]
 pub enum Rest {
     Nothing,
     Key,
     Fault(Fault),
 }
 
-#[derive(Drop)]
+#[derive(Clone, Copy)]
 pub struct Phrase {
     pub head: usize,
     pub form: Form,

@@ -1,11 +1,12 @@
 // Around a place of the grid: the sectors, the aircraft bits and the cells within 25 km.
+#![tactic(auto)]
 ghost use Rattle.std.specs.Prelude.{◌≡◌, ◌%◌, ◌≤◌, ◌<◌};
 ghost use Rattle.around.specs.Marks.{around_of, sectors_in};
 
 pub mod spans;
 
 // What lies around a place: the sectors that are marked, the aircraft bits, the cells.
-#[derive(Drop)]
+#[derive(Clone, Copy)]
 pub struct Nearby {
     pub marks: [bool; 8],
     pub aircraft: u32,

@@ -11,7 +11,7 @@ use libc::STDOUT_FILENO;
 use lines::{Input, Line};
 use readers::Fault;
 
-#[derive(Drop)]
+#[derive(Clone, Copy)]
 pub struct State {
     pub input: Input,
     // How large the watch is.
@@ -23,7 +23,7 @@ pub struct State {
 }
 
 // How large the watch is, and how many bytes wait, after a line was answered.
-#[derive(Drop)]
+#[derive(Clone, Copy)]
 pub struct After {
     pub size: Size,
     pub n: usize,

@@ -1,4 +1,5 @@
 // Reads a list of calls on standard input, one to a line, and writes one answer a line. There is no heap: a watch has up to 64 rows.
+#![tactic(auto)]
 mod input;
 
 ghost use Rattle.std.specs.Prelude.{◌≡◌, length};

@@ -1,16 +1,17 @@
 // A cell of the siting watch: how many positions fell in it, the lowest altitude bucket, which aircraft. No other crate
 // knows how a cell is packed into a word.
+#![tactic(auto)]
 ghost use Rattle.std.specs.Prelude.{◌≡◌, min, ◌+◌, ◌<◌, ◌^◌, ltb};
 ghost use Rattle.cells.specs.Cells.{count_of, low_of, bits_of, occupied_word, unpacked, packed, empty_word, added, added_word, merge, merged_word, not_below_zero, bucket_of, aircraft_bit, ceiling};
 
 // Feet, if they were said.
-#[derive(Drop)]
+#[derive(Clone, Copy)]
 pub enum Height {
     Known(i32),
     Unknown,
 }
 
-#[derive(Drop)]
+#[derive(Clone, Copy)]
 pub struct Cell {
     pub count: u8,
     pub low: u8,
@@ -18,7 +19,7 @@ pub struct Cell {
 }
 
 // The highest altitude, metres, that a cell's lowest bucket allows.
-#[derive(Drop)]
+#[derive(Clone, Copy)]
 pub enum Ceiling {
     Metres(f64),
     NoAltitude,

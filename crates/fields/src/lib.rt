@@ -1,9 +1,10 @@
 // A list of calls, taken apart: a line's text, its fields, its words. Nothing here knows a call.
+#![tactic(auto)]
 ghost use Rattle.std.specs.Prelude.{◌≡◌, ◌≤◌, ◌-◌, length};
 ghost use Rattle.fields.specs.Text.{first_of, back_over, text_end, field_at, part_of, same_bytes_lem, shown_of, moved_to};
 
 // What stands at a place of a text: a field, a separator that separates nothing, or no more.
-#[derive(Drop)]
+#[derive(Clone, Copy)]
 pub enum Field {
     At {
         start: usize,

@@ -58,7 +58,7 @@ pub fn ceiling_m(low: u8) -> f64
 }
 
 // A distance in kilometres, or none.
-#[derive(Drop)]
+#[derive(Clone, Copy)]
 pub enum Past {
     By(f64),
     No,

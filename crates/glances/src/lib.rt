@@ -1,5 +1,6 @@
 // One row of the lent words without opening it: its links, and what the search for a key asks of it, read from the words that hold them; and stores of
 // its links or its part alone. A row with a word out of range is opened whole, and stored whole.
+#![tactic(auto)]
 ghost use Rattle.std.specs.Prelude.{◌≡◌, true, ◌&&◌, ◌<◌, ◌≤◌, eqb, length, set, get_or, drop};
 ghost use Rattle.table.specs.Machine.{same};
 ghost use Rattle.heard.specs.Heard.{site_fits};
@@ -16,14 +17,14 @@ use receiver::Part;
 use rows::Row;
 
 // A row's links.
-#[derive(Drop)]
+#[derive(Clone, Copy)]
 pub struct Links {
     pub prev: u32,
     pub next: u32,
 }
 
 // What a step along a chain asks of a row: its links, whether its part is sound, and whether it has the key.
-#[derive(Drop)]
+#[derive(Clone, Copy)]
 pub struct Glance {
     pub prev: u32,
     pub next: u32,

@@ -8,7 +8,7 @@ use heard::Position;
 use readers::{Fault, Name, Place};
 use receiver::Part;
 
-#[derive(Drop)]
+#[derive(Clone, Copy)]
 pub enum Kind {
     Watch,
     Fresh,

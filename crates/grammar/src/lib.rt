@@ -1,4 +1,5 @@
 // One line of a list of calls, read into a value: its fields are read in turn by `readers`, and the first thing that is wrong is what the line comes to.
+#![tactic(auto)]
 mod kinds;
 
 ghost use Rattle.std.specs.Prelude.{◌≡◌};
@@ -12,7 +13,7 @@ use receiver::Part;
 use sites::Claimed;
 
 // The seven calls, but for the key that most of them name.
-#[derive(Drop)]
+#[derive(Clone, Copy)]
 pub enum Call {
     Fresh,
     Drop,
@@ -24,7 +25,7 @@ pub enum Call {
 }
 
 // What a line asks for.
-#[derive(Drop)]
+#[derive(Clone, Copy)]
 pub enum Line {
     Nothing,
     Wrong(Fault),
@@ -81,7 +82,7 @@ pub enum Line {
 }
 
 // A line, and the key that it names: zeros where it names none.
-#[derive(Drop)]
+#[derive(Clone, Copy)]
 pub struct Said {
     pub line: Line,
     pub key: [u8; 32],

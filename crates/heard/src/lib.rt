@@ -1,5 +1,6 @@
 // What is kept around the site that a row claims: which site, how often it moved, and the positions counted in two halves of 12 hours. A claim and a
 // position, decided by value; the cells are a slice that is lent.
+#![tactic(auto)]
 ghost use Rattle.std.specs.Prelude.{◌≡◌, ℕ, ◌+◌, ◌<◌, ◌≤◌, true, not, T, List, length, replicate};
 ghost use Rattle.std.proofs.lemmas.List.Edits.{sets};
 ghost use Rattle.cells.specs.Cells.{empty_word};
@@ -13,7 +14,7 @@ use sites::{Altitude, Claimed, Site};
 use view::EpochId;
 
 // What is kept around the site that a row claims: which site, how often it moved, whose positions each half of the cells counts.
-#[derive(Drop)]
+#[derive(Clone, Copy)]
 pub struct Heard {
     pub site: Claimed,
     pub generation: u32,
@@ -22,7 +23,7 @@ pub struct Heard {
 }
 
 // An aircraft's position, as a receiver reports it.
-#[derive(Drop)]
+#[derive(Clone, Copy)]
 pub struct Position {
     pub lat: f64,
     pub lon: f64,
@@ -32,7 +33,7 @@ pub struct Position {
 }
 
 // What a claim comes to: refused (4), the same place, or a move.
-#[derive(Drop)]
+#[derive(Clone, Copy)]
 pub enum Claiming {
     Refused,
     Stayed(Heard),
@@ -40,7 +41,7 @@ pub enum Claiming {
 }
 
 // Where a position is counted: its half starts at `start`, and is emptied first if the id is newer or the first.
-#[derive(Drop)]
+#[derive(Clone, Copy)]
 pub struct Counting {
     pub heard: Heard,
     pub newer: bool,
@@ -51,7 +52,7 @@ pub struct Counting {
 }
 
 // What a position comes to: refused (4, 5, 6), or counted.
-#[derive(Drop)]
+#[derive(Clone, Copy)]
 pub enum Hearing {
     Outside,
     Siteless,

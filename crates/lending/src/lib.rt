@@ -1,4 +1,5 @@
 // A watch in a lent piece of memory: its digest, and the lines that write it word by word, junk allowed.
+#![tactic(auto)]
 pub mod digest;
 
 ghost use Rattle.std.specs.Prelude.{◌≡◌, ◌*◌, ◌≤◌, [], ◌∷◌, ◌++◌, length, drop, replicate, slice_set};
@@ -13,14 +14,14 @@ use rows::Row;
 use scans::Key;
 
 // How many rows and cells the watch has.
-#[derive(Drop)]
+#[derive(Clone, Copy)]
 pub struct Size {
     pub rows: u32,
     pub cells: u32,
 }
 
 // A line that writes the watch; a row's key stands beside it.
-#[derive(Drop)]
+#[derive(Clone, Copy)]
 pub enum Change {
     Lend {
         rows: u32,
@@ -43,7 +44,7 @@ pub enum Change {
     },
 }
 
-#[derive(Drop)]
+#[derive(Clone, Copy)]
 pub enum Outcome {
     Done,
     // Nothing is changed.
@@ -51,7 +52,7 @@ pub enum Outcome {
 }
 
 // What a line comes to, and how large the watch is after it.
-#[derive(Drop)]
+#[derive(Clone, Copy)]
 pub struct Changed {
     pub outcome: Outcome,
     pub size: Size,

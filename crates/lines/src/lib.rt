@@ -1,11 +1,12 @@
 // Standard input, line by line, through a buffer that the caller lends.
+#![tactic(auto)]
 ghost use Rattle.std.specs.Prelude.{◌≡◌, ◌≤◌, ◌-◌};
 ghost use Rattle.lines.specs.Lines.{Within, start_of, line_of, last_of, kept_of, taken_of, Refilled, Next, bytes_of};
 
 use libc::STDIN_FILENO;
 
 // What was read and not yet given lies from `at` to `have` in the buffer.
-#[derive(Drop)]
+#[derive(Clone, Copy)]
 pub struct Input {
     pub at: usize,
     pub have: usize,
@@ -14,7 +15,7 @@ pub struct Input {
     pub more: bool,
 }
 
-#[derive(Drop)]
+#[derive(Clone, Copy)]
 pub enum Line {
     // It lies from `start` to `end` in the buffer.
     At { start: usize, end: usize },
@@ -24,7 +25,7 @@ pub enum Line {
     Nothing,
 }
 
-#[derive(Drop)]
+#[derive(Clone, Copy)]
 pub struct Step {
     pub input: Input,
     pub line: Line,

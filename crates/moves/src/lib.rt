@@ -1,5 +1,6 @@
 // What a call decides, by value: the answer, the ends, and which row's cells become empty; the row's own part and cells are crate `bodies`'s. Crate `watch`
 // reads the rows from a slice of records and stores them there, crate `lent` from a slice of plain numbers; both come to the same through what is said here.
+#![tactic(auto)]
 ghost use Rattle.std.specs.Prelude.{◌≡◌, false, ◌+◌, ◌*◌, ◌≤◌, length};
 ghost use Rattle.heard.specs.Heard.{width};
 ghost use Rattle.heard.specs.Answers.{HearingFits};
@@ -16,7 +17,7 @@ use scans::{Ends, Key, Look};
 use verdicts::{CheckState, Judged};
 
 // The question that was answered no; or what the call says.
-#[derive(Drop)]
+#[derive(Clone, Copy)]
 pub enum Word {
     Refused(u8),
     Generation(u32),
@@ -27,7 +28,7 @@ pub enum Word {
 }
 
 // A claim's key is the one that it pushed out, if any; a take-out's and a drop's the one freed; else it is zeros.
-#[derive(Drop)]
+#[derive(Clone, Copy)]
 pub struct Answer {
     pub word: Word,
     pub pushed: bool,
@@ -112,7 +113,7 @@ pub fn no_first() -> Answer
 // ---- what a call comes to on the rows
 
 // The ends to keep, the row whose cells become empty, if any, and the answer.
-#[derive(Drop)]
+#[derive(Clone, Copy)]
 pub struct Move {
     pub ends: Ends,
     pub clear: Look,
@@ -219,7 +220,7 @@ fn hear_no(h: Hearing) -> Answer
 }
 
 // What a position comes to on the rows: the ends to keep, its row's number, where it is counted, and the answer.
-#[derive(Drop)]
+#[derive(Clone, Copy)]
 pub struct Count {
     pub ends: Ends,
     pub at: u32,

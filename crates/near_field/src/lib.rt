@@ -1,8 +1,9 @@
 // The near field: a judgment by what lies around the site, and around the places of the grid. Its words are those of every judging.
+#![tactic(auto)]
 pub mod near;
 
 // What a judging found.
-#[derive(Drop)]
+#[derive(Clone, Copy)]
 pub enum Judgment {
     Unjudged,
     Fits,
@@ -10,7 +11,7 @@ pub enum Judgment {
 }
 
 // What found a site wrong.
-#[derive(Drop)]
+#[derive(Clone, Copy)]
 pub enum Evidence {
     Horizon,
     NearField,

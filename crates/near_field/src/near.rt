@@ -77,7 +77,7 @@ fn found_cells(grid: &[u32; 1600], heard: &[u32; 1601], i: usize) -> u32
 }
 
 // The best cell so far (1,600: none yet), and the cells around it.
-#[derive(Drop)]
+#[derive(Clone, Copy)]
 struct Best {
     pub at: usize,
     pub cells: u32,
@@ -125,7 +125,7 @@ fn is_member(grid: &[u32; 1600], heard: &[u32; 1601], best: usize, i: usize) -> 
 }
 
 // How many members there are, and the sums of their easts and norths.
-#[derive(Drop)]
+#[derive(Clone, Copy)]
 struct Group {
     pub cells: u32,
     pub east: u32,

@@ -1,18 +1,19 @@
 // The places heard, for crate `nothing_near`: their positions gathered by the 5 km step that their distance is said in, and the two nearest of them. Nothing is
 // sorted here. What 01 calls nothing near is defined in specs/Nothing, over the list of all places, with its answer `Empty`.
+#![tactic(auto)]
 ghost use Rattle.std.specs.Prelude.{◌≡◌, List, [], ℕ, ◌+◌, ◌≤◌, ◌<◌, length, get_or, set};
 ghost use Rattle.cells.specs.Cells.{count_of};
 ghost use Rattle.nearest.specs.Counted.{positions_among, cell_step, bin_step, cell_steps, all_steps, cell_spot, bin_spot, two_nearest, put, nearer, nearest_among};
 
 // The distance said, km, where nothing is near.
-#[derive(Drop)]
+#[derive(Clone, Copy)]
 pub enum Empty {
     Off(u32),
     Heard,
 }
 
 // A place heard: the square of its nearest distance, half cells, the steps of its typical one, and its positions.
-#[derive(Drop)]
+#[derive(Clone, Copy)]
 pub struct Spot {
     pub nearest: u64,
     pub step: usize,
@@ -20,7 +21,7 @@ pub struct Spot {
 }
 
 // The two nearest of some places, in their order.
-#[derive(Drop)]
+#[derive(Clone, Copy)]
 pub struct Nearest {
     pub first: Spot,
     pub second: Spot,

@@ -1,14 +1,15 @@
 // Whole and signed numbers of a list of calls, read from slices of bytes, and the digits and the sign that crates `reals` and `keys` read as well.
+#![tactic(auto)]
 ghost use Rattle.std.specs.Prelude.{◌≡◌, Bool, ◌<◌, ◌≤◌, ◌^◌, ◌-◌, pos, neg_ℤ};
 ghost use Rattle.numbers.specs.Numbers.{digit_of, number_on, whole_of, is_minus, unsigned_of, minus_of, plus_of, signed_of};
 
-#[derive(Drop)]
+#[derive(Clone, Copy)]
 pub enum Number {
     Is(u64),
     Bad,
 }
 
-#[derive(Drop)]
+#[derive(Clone, Copy)]
 pub enum Signed {
     Is(i32),
     Bad,

@@ -1,5 +1,6 @@
 // The fields of a line, read in turn from a place in it: one field, or a group of them. Reading goes on behind a field that is wrong, and the first fault stays.
 // The kinds of lines stand above, in `grammar`.
+#![tactic(auto)]
 ghost use Rattle.std.specs.Prelude.{◌≡◌, ◌≤◌};
 ghost use Rattle.readers.specs.Fields.{start_at, failed_at, moved_to, piece_at, bytes_of, whole_at, maybe_at, feet_at, altitude_at, real_at, key_at, ended_at_lem, is_dash, small_at, byte_at, epoch_at, link_at, distance_at, last_of, two_at, four_at, site_fields, claim_at, parts_of, back_to, site_parts, site_at, runs_at, verdict_parts, verdict_at, heard_at, part_at, links_at, clock_field, clock_at};
 
@@ -13,7 +14,7 @@ use verdicts::{Judged, JudgedAt, Last, Verdict, WrongBy};
 use view::EpochId;
 
 // A field's name, for what is said of a line that cannot be read.
-#[derive(Drop)]
+#[derive(Clone, Copy)]
 pub enum Name {
     A,
     Address,
@@ -56,7 +57,7 @@ pub enum Name {
 }
 
 // Why a line cannot be read, or not be done.
-#[derive(Drop)]
+#[derive(Clone, Copy)]
 pub enum Fault {
     Missing(Name),
     NotNumber(Name),
@@ -74,7 +75,7 @@ pub enum Fault {
 }
 
 // Where reading stands: the next field starts at `at`, and a `sep` ends it; and what was wrong first, if not all was good.
-#[derive(Drop)]
+#[derive(Clone, Copy)]
 pub struct Place {
     pub at: usize,
     pub sep: u8,
@@ -83,7 +84,7 @@ pub struct Place {
 }
 
 // A field's bytes lie from `start` to `end`; none where it is wrong.
-#[derive(Drop)]
+#[derive(Clone, Copy)]
 pub struct Piece {
     pub start: usize,
     pub end: usize,
@@ -91,13 +92,13 @@ pub struct Piece {
 }
 
 // What a field says, and where reading stands behind it.
-#[derive(Drop)]
+#[derive(Clone, Copy)]
 pub struct Whole {
     pub n: u64,
     pub place: Place,
 }
 
-#[derive(Drop)]
+#[derive(Clone, Copy)]
 pub struct Maybe {
     pub some: bool,
     pub n: u64,
@@ -105,62 +106,62 @@ pub struct Maybe {
 }
 
 // The same of a 32-bit number, a byte, an epoch id, a distance.
-#[derive(Drop)]
+#[derive(Clone, Copy)]
 pub struct Small {
     pub n: u32,
     pub place: Place,
 }
 
-#[derive(Drop)]
+#[derive(Clone, Copy)]
 pub struct Byte {
     pub n: u8,
     pub place: Place,
 }
 
-#[derive(Drop)]
+#[derive(Clone, Copy)]
 pub struct EpochHeld {
     pub id: EpochId,
     pub place: Place,
 }
 
-#[derive(Drop)]
+#[derive(Clone, Copy)]
 pub struct DistanceHeld {
     pub by: WrongBy,
     pub place: Place,
 }
 
-#[derive(Drop)]
+#[derive(Clone, Copy)]
 pub struct FeetHeld {
     pub feet: Height,
     pub place: Place,
 }
 
-#[derive(Drop)]
+#[derive(Clone, Copy)]
 pub struct AltitudeHeld {
     pub alt_m: Altitude,
     pub place: Place,
 }
 
-#[derive(Drop)]
+#[derive(Clone, Copy)]
 pub struct Decimal {
     pub x: f64,
     pub place: Place,
 }
 
-#[derive(Drop)]
+#[derive(Clone, Copy)]
 pub struct Named {
     pub key: [u8; 32],
     pub place: Place,
 }
 
-#[derive(Drop)]
+#[derive(Clone, Copy)]
 pub struct Two {
     pub a: f64,
     pub b: f64,
     pub place: Place,
 }
 
-#[derive(Drop)]
+#[derive(Clone, Copy)]
 pub struct Four {
     pub a: f64,
     pub b: f64,
@@ -169,13 +170,13 @@ pub struct Four {
     pub place: Place,
 }
 
-#[derive(Drop)]
+#[derive(Clone, Copy)]
 pub struct SiteHeld {
     pub site: Claimed,
     pub place: Place,
 }
 
-#[derive(Drop)]
+#[derive(Clone, Copy)]
 pub struct RunsHeld {
     pub last: Last,
     pub wrong_run: u8,
@@ -183,7 +184,7 @@ pub struct RunsHeld {
     pub place: Place,
 }
 
-#[derive(Drop)]
+#[derive(Clone, Copy)]
 pub struct VerdictHeld {
     pub verdict: Judged,
     pub place: Place,
@@ -672,26 +673,26 @@ pub fn verdict_at(t: &[u8], p: Place) -> VerdictHeld
 
 // ---- a row
 
-#[derive(Drop)]
+#[derive(Clone, Copy)]
 pub struct HeardHeld {
     pub heard: Heard,
     pub place: Place,
 }
 
-#[derive(Drop)]
+#[derive(Clone, Copy)]
 pub struct PartHeld {
     pub heard: Heard,
     pub verdict: Judged,
     pub place: Place,
 }
 
-#[derive(Drop)]
+#[derive(Clone, Copy)]
 pub struct ClockHeld {
     pub kept: JudgedAt,
     pub place: Place,
 }
 
-#[derive(Drop)]
+#[derive(Clone, Copy)]
 pub struct LinksHeld {
     pub prev: u32,
     pub next: u32,

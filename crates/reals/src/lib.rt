@@ -1,4 +1,5 @@
 // An f64 of a list of calls, read from slices of bytes: by its 16 hex digits, or as a decimal number.
+#![tactic(auto)]
 ghost use Rattle.std.specs.Prelude.{◌≡◌, ◌-◌, ◌^◌, ◌≤◌, Bool};
 ghost use Rattle.std.specs.Float.Ieee as Ieee;
 ghost use Rattle.std.specs.Float.{binary64};
@@ -7,7 +8,7 @@ ghost use Rattle.reals.specs.Reals.{bits_of, point_of, decimal_of, real_of};
 use fields::find;
 use numbers::{Number, is_minus, read_on, unsigned};
 
-#[derive(Drop)]
+#[derive(Clone, Copy)]
 pub enum Real {
     Is(f64),
     Bad,

@@ -1,10 +1,11 @@
 // One row of the watch, without key and links, and the seven calls of the siting watch as definitions; the calls leave a row that question 2 accepts. What is
 // heard around the site stands in `heard`, the verdict on that site in `verdicts`. No function stands here.
+#![tactic(auto)]
 use heard::Heard;
 use verdicts::{Judged, JudgedAt};
 
 // A row but for its key and links.
-#[derive(Drop)]
+#[derive(Clone, Copy)]
 pub struct Part {
     pub heard: Heard,
     pub verdict: Judged,

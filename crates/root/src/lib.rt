@@ -1,5 +1,6 @@
 // The correctly rounded square root of an f64. A guess in floats is tested, and set right by one, in whole numbers; what the test
 // does not pass is found in whole numbers alone.
+#![tactic(auto)]
 ghost use Rattle.std.specs.Prelude.{◌≡◌, ℕ, ◌+◌, ◌*◌, ◌/◌, ◌%◌, ◌^◌, ◌<◌, ◌≤◌, true, T, if◌then◌else◌};
 ghost use Rattle.std.specs.Float.Ieee as Ieee;
 ghost use Rattle.std.specs.Float.{binary64};
@@ -172,7 +173,7 @@ fn normal_bits(x: f64) -> u64
 }
 
 // The roots of two numbers.
-#[derive(Drop)]
+#[derive(Clone, Copy)]
 pub struct Roots {
     pub first: f64,
     pub second: f64,

@@ -1,5 +1,6 @@
 // The rows of a lent watch in their order of use: a chain of used rows, the least recently used first, and a chain of free rows. Here are
 // the row and the steps on it, by value; crate `scans` has the chains' ends, crates `records` and `lent` read rows from what is lent and store them there.
+#![tactic(auto)]
 ghost use Rattle.std.specs.Prelude.{◌≡◌};
 ghost use Rattle.rows.specs.Read.{fits};
 ghost use Rattle.rows.specs.Links.{blank, unmade, with_next, with_prev, with_links, with_part, made_row, kept_seat, made_seat, fresh_of};
@@ -13,7 +14,7 @@ use verdicts::{Judged, JudgedAt};
 use view::EpochId;
 
 // Links are row numbers, or none (the largest u32): the rows before and after in the used chain; a free row's `next` is the free chain's.
-#[derive(Drop)]
+#[derive(Clone, Copy)]
 pub struct Row {
     pub key: [u8; 32],
     pub part: Part,
@@ -123,7 +124,7 @@ pub fn made_row(old: Row, key: Key, part: Part) -> Row
 // ---- a claim's row
 
 // The ends after a claim, its row's number, whether the row was made for it, and the key that it pushed out, if any.
-#[derive(Drop)]
+#[derive(Clone, Copy)]
 pub struct Seat {
     pub ends: Ends,
     pub at: u32,

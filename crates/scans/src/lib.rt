@@ -1,17 +1,18 @@
 // The two chains of a watch by row numbers alone: their ends, and a scan along a chain, as far as neither asks what a row holds. Crate `rows` adds the row.
+#![tactic(auto)]
 ghost use Rattle.std.specs.Prelude.{◌≡◌, true, false, cond, not, ◌&&◌, ◌||◌, ◌+◌, ◌-◌, eqb};
 ghost use Rattle.table.specs.Machine.{same};
 ghost use Rattle.table.specs.Rows.{NONE};
 ghost use Rattle.scans.specs.Ends.{out_ends, linked_ends, with_free, fresh_ends};
 ghost use Rattle.scans.specs.Scan.{back_fits_lem, first_found, more_of, start_of, came_through, chains_of, found_at, look_of, is_no, is_unfit, at_of, number_of};
 
-#[derive(Drop)]
+#[derive(Clone, Copy)]
 pub struct Key {
     pub bytes: [u8; 32],
 }
 
 // The least and the most recently used row, and the first free one; or none.
-#[derive(Drop)]
+#[derive(Clone, Copy)]
 pub struct Ends {
     pub head: u32,
     pub tail: u32,
@@ -121,7 +122,7 @@ pub fn fresh_ends() -> Ends
 
 // Where a scan stands, on how many rows it may go, and what it has seen: do the back links fit (asked if `back`), is every part sound, and
 // the first row with the key.
-#[derive(Drop)]
+#[derive(Clone, Copy)]
 pub struct Cursor {
     pub at: u32,
     pub prev: u32,
@@ -134,7 +135,7 @@ pub struct Cursor {
 }
 
 // The number of the first question that is answered no (3: no row has the key); or the key's row.
-#[derive(Drop)]
+#[derive(Clone, Copy)]
 pub enum Look {
     No(u8),
     At(u32),

@@ -1,4 +1,5 @@
 // A list of calls, line by line: what a line is answered, and what it does to the watch that is lent. An answer and its text stand in `answers`.
+#![tactic(auto)]
 mod run;
 pub mod single;
 
@@ -128,7 +129,7 @@ fn key_of(k: [u8; 32]) -> Key
 }
 
 // What a line asks of the watch.
-#[derive(Drop)]
+#[derive(Clone, Copy)]
 pub enum View {
     Call(Call),
     Watch(u32),

@@ -1,1 +1,2 @@
 // No code: the proved sheet is proofs/Sheet.antt.
+#![tactic(auto)]

@@ -1,4 +1,5 @@
 // Sites: two degrees and an altitude. Whether they are within degrees, whether two are one place, and where a position lies seen from one.
+#![tactic(auto)]
 ghost use Rattle.std.specs.Prelude.{◌≡◌, ◌<◌, T};
 ghost use Rattle.measures.specs.Degrees.{in_degrees};
 ghost use Rattle.sites.specs.Sites.{held, same_place, antenna, placed, placing};
@@ -8,13 +9,13 @@ use floats::horizon;
 use measures::degrees;
 
 // An altitude in metres, or none.
-#[derive(Drop)]
+#[derive(Clone, Copy)]
 pub enum Altitude {
     Metres(i32),
     Unknown,
 }
 
-#[derive(Drop)]
+#[derive(Clone, Copy)]
 pub struct Site {
     pub lat: f64,
     pub lon: f64,
@@ -22,7 +23,7 @@ pub struct Site {
 }
 
 // What a receiver claims: a site, or none.
-#[derive(Drop)]
+#[derive(Clone, Copy)]
 pub enum Claimed {
     At(Site),
     Nowhere,

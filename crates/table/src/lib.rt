@@ -1,1 +1,2 @@
 // The table of rows in the order of use: definitions and laws, for any receiver. No code stands here.
+#![tactic(auto)]

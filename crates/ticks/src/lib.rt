@@ -1,5 +1,6 @@
 // The turn keeper over rows lent as records (02, Item 1): the tick of crate `turns`, over `&[Row]`. What a tick does to the rows is planned first, by value: questions
 // 1, 2 and 8, and the used rows marked. Then each row that it names is read once, and what becomes of its key is decided by a function that sees no other row.
+#![tactic(auto)]
 ghost use Rattle.std.specs.Prelude.{◌≡◌, true, false, not, ◌+◌, ◌*◌, ◌<◌, ◌≤◌, ltb, length, get_or, set, replicate};
 ghost use Rattle.rows.specs.Read.{form, watch_is};
 ghost use Rattle.turns.specs.Turn.{start_of, turn_on};
@@ -14,7 +15,7 @@ use turns::Turned;
 // ---- the used rows
 
 // The used chain's marks so far: the next row of the chain, on how many rows it may go, and the rows marked.
-#[derive(Drop)]
+#[derive(Clone, Copy)]
 pub struct Marks {
     pub at: u32,
     pub left: usize,
@@ -91,7 +92,7 @@ fn mark(rows: &[Row], s: Marks) -> Marks
 // ---- what a tick is going to do
 
 // A tick under way: refused, or the next row that it names, how many are left, how many keys were given, and the rows that are used.
-#[derive(Drop)]
+#[derive(Clone, Copy)]
 pub struct Tour {
     pub fine: bool,
     pub number: u8,

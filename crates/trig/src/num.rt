@@ -6,7 +6,7 @@ ghost use Rattle.trig.specs.Value.{value};
 use super::series;
 
 // Zero may have either sign.
-#[derive(Drop)]
+#[derive(Clone, Copy)]
 pub struct Num {
     pub minus: bool,
     pub size: u64,

@@ -1,5 +1,6 @@
 // The turn keeper over rows lent as plain numbers (02, Item 1): each tick names the next k rows in ascending number, going round to 0, and gives the keys of
 // those that are used. A row alone does not tell whether it is used, so the used chain is walked once and its rows are marked; then the k rows are passed over.
+#![tactic(auto)]
 ghost use Rattle.std.specs.Prelude.{◌≡◌, false, List, map, ℕ, ◌+◌, ◌*◌, ◌<◌, ◌≤◌, length, get_or, replicate};
 ghost use Rattle.std.proofs.Math.Option.{some};
 ghost use Rattle.std.proofs.lemmas.List.Edits.{sets};
@@ -14,7 +15,7 @@ ghost use Rattle.turns.specs.Passes.{mark_all, count_after, list_after, passed};
 use scans::{Ends, Key};
 
 // What a tick answers: the number of the question that refused it; or how many keys it gave, and the next row number.
-#[derive(Drop)]
+#[derive(Clone, Copy)]
 pub enum Turned {
     Refused(u8),
     Named { count: u32, next: u32 },

@@ -1,4 +1,5 @@
 // Replays a list of the Rust's answers to judgings with the proved judging, and prints how many differ.
+#![tactic(auto)]
 mod read;
 mod replay;
 mod write;

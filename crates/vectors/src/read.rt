@@ -5,7 +5,7 @@ ghost use Rattle.vectors.specs.Lines.{first_word, rest_words, word_of, ended_at_
 use numbers::{Number, Signed};
 
 // A whole number, or `-` for none: a tag of 0.
-#[derive(Drop)]
+#[derive(Clone, Copy)]
 pub struct Whole {
     pub tag: u8,
     pub n: u64,
@@ -13,7 +13,7 @@ pub struct Whole {
 }
 
 // An altitude, or `-` for none.
-#[derive(Drop)]
+#[derive(Clone, Copy)]
 pub struct Metres {
     pub tag: u8,
     pub m: i32,
@@ -21,7 +21,7 @@ pub struct Metres {
 }
 
 // What is judged beside the cells, and the stored answer.
-#[derive(Drop)]
+#[derive(Clone, Copy)]
 pub struct Row {
     pub even: Whole,
     pub odd: Whole,

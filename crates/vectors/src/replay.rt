@@ -8,7 +8,7 @@ use crate::{read, write};
 use lines::{Input, Line};
 
 // The vectors since the last count, those that differ, and the lines that cannot be read.
-#[derive(Drop)]
+#[derive(Clone, Copy)]
 pub struct Counts {
     pub vectors: u64,
     pub differ: u64,
@@ -16,13 +16,13 @@ pub struct Counts {
 }
 
 // The cells that were set since the last judging, and what was counted.
-#[derive(Drop)]
+#[derive(Clone, Copy)]
 pub struct Done {
     pub cells: [u32; 3344],
     pub counts: Counts,
 }
 
-#[derive(Drop)]
+#[derive(Clone, Copy)]
 pub struct State {
     pub input: Input,
     pub done: Done,

@@ -1,11 +1,12 @@
 // A receiver's run of judgings: its site is held wrong once three in a row found it wrong, and let go once three in a row did not.
+#![tactic(auto)]
 ghost use Rattle.std.specs.Prelude.{◌≡◌, cond, ◌||◌, leb};
 ghost use Rattle.verdicts.specs.Verdict as verdict;
 
 use near_field::Judgment;
 
 // What a row keeps of its last judging.
-#[derive(Drop)]
+#[derive(Clone, Copy)]
 pub enum Last {
     Unjudged,
     Fits,
@@ -13,14 +14,14 @@ pub enum Last {
 }
 
 // Held wrong, by so far; or not.
-#[derive(Drop)]
+#[derive(Clone, Copy)]
 pub enum WrongBy {
     Km(u32),
     Nothing,
 }
 
 // One receiver's run of judgings. `moved`: a move has ended the run.
-#[derive(Drop)]
+#[derive(Clone, Copy)]
 pub struct Verdict {
     pub last: Last,
     pub wrong_run: u8,
@@ -30,21 +31,21 @@ pub struct Verdict {
 }
 
 // The verdict of a row that was judged since it was made.
-#[derive(Drop)]
+#[derive(Clone, Copy)]
 pub enum Judged {
     With(Verdict),
     Never,
 }
 
 // The now_ms of the last judging that was accepted since the row was made.
-#[derive(Drop)]
+#[derive(Clone, Copy)]
 pub enum JudgedAt {
     At(u64),
     Never,
 }
 
 // A site's state as said: with the distance, when it is held wrong.
-#[derive(Drop)]
+#[derive(Clone, Copy)]
 pub enum CheckState {
     Unjudged,
     Fits,

@@ -1,17 +1,18 @@
 // What was heard over the halves still kept, merged.
+#![tactic(auto)]
 ghost use Rattle.std.specs.Prelude.{◌≡◌, ◌||◌, ◌&&◌, cond, ◌+◌, ◌≤◌, ◌<◌, eqb, length};
 ghost use Rattle.cells.specs.Cells.{empty_word};
 ghost use Rattle.cells.specs.Passes.{some};
 ghost use Rattle.view.specs.View.{kept, merged_of, merged_at, grid_of, heard_at, heard_in, bins_of, positions_of, far_of, occupied_among};
 
-#[derive(Drop)]
+#[derive(Clone, Copy)]
 pub enum EpochId {
     Id(u64),
     Nothing,
 }
 
 // The merged far bins, and how many positions they hold.
-#[derive(Drop)]
+#[derive(Clone, Copy)]
 pub struct Far {
     pub cells: [u32; 72],
     pub positions: u32,
