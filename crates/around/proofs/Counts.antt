@@ -6,7 +6,7 @@ use mathlib.Core.List.{List, [], ◌∷◌}
 use Prim.Native.Nat.{ℕ, zero, suc, ◌+◌, ◌-◌, ◌≤◌, ◌<◌}
 use native.Mathlib.Nat.{eq-or-lt_of_le}
 use native.Mathlib.Omega.{arith}
-use borrow.Author.Tests.{lt-ltb, le-ltb, ltb_true, ltb_false}
+use borrow.Author.Tests.{lt-ltb, le-ltb, ltb-true, ltb-false}
 use lib.Dec.{ltb}
 use lib.ListN.{get_or}
 use Rattle.cells.specs.Passes.{pass, how_many, table}
@@ -77,8 +77,8 @@ some_at p i n l e = omega (arith, count_mono p (suc i) n l, one (p i) (how_many 
 pub some_more : (m n a b : ℕ) → m + a ≡ n + b → a ≤ b → ltb 0 m ≡ (ltb 0 n || ltb a b)
 some_more m zero a b e l = by (ltb a b) refl where
   by : (t : Bool) → ltb a b ≡ t → ltb 0 m ≡ t
-  by true h = lt-ltb 0 m (omega (arith, ltb_true a b h))
-  by false h = le-ltb 0 m (omega (arith, ltb_false a b h))
+  by true h = lt-ltb 0 m (omega (arith, ltb-true a b h))
+  by false h = le-ltb 0 m (omega (arith, ltb-false a b h))
 some_more m (suc n) a b e l = rw (lt-ltb 0 (suc n) (omega arith)) (lt-ltb 0 m (omega arith))
 
 -- what is kept of a grid is what it says

@@ -5,7 +5,7 @@ use mathlib.Core.Bool.{Bool, true, false, ◌&&◌, ◌||◌, cond}
 use mathlib.Core.List.{List}
 use Prim.Native.Nat.{ℕ, ◌≤◌, ◌<◌}
 use native.Mathlib.Omega.{arith}
-use borrow.Author.Tests.{eqb_true, eqb_false}
+use borrow.Author.Tests.{eqb-true, eqb-false}
 use lib.Dec.{ltb, eqb}
 use lib.ListN.{length, get_or, set, replicate, length-set}
 use lib.Seq.{ext_get_or, get_or-set_same, get_or-set_other}
@@ -49,11 +49,11 @@ mark_table f f' n s true l h =
 
       at : (i : ℕ) → i < n → (b : Bool) → eqb s i ≡ b → get_or (set (table f n) s true) i false ≡ f' i
       at i m true e =
-          ap (λ (k : ℕ). get_or (set (table f n) s true) k false) (sym (eqb_true s i e))
+          ap (λ (k : ℕ). get_or (set (table f n) s true) k false) (sym (eqb-true s i e))
           ∙ get_or-set_same (table f n) s true false (let e2 = table_length f false n in omega arith)
           ∙ sym (h i ∙ ap (λ (b : Bool). cond b (f i || true) (f i)) e ∙ or_true (f i))
       at i m false e =
-          get_or-set_other (table f n) s i true false (λ q. eqb_false s i e (sym q)) ∙ table_at f false n i m
+          get_or-set_other (table f n) s i true false (λ q. eqb-false s i e (sym q)) ∙ table_at f false n i m
           ∙ sym (h i ∙ ap (λ (b : Bool). cond b (f i || true) (f i)) e)
 
 -- ---- what a cell marks, seen from (x, y)

@@ -1,5 +1,5 @@
 -- What a line comes to, by its kind; that the watch stays within what is lent; and that its answer is put whole.
-use Rattle.std.proofs.Common.{◌≡◌, ℕ, ◌+◌, ◌<◌, ◌≤◌, Bool, true, false, cond, ltb, List, length, refl, ◌∙◌, arith, ltb_false, le-ltb, lt-ltb, le-leb}
+use Rattle.std.proofs.Common.{◌≡◌, ℕ, ◌+◌, ◌<◌, ◌≤◌, Bool, true, false, cond, ltb, List, length, refl, ◌∙◌, arith, ltb-false, le-ltb, lt-ltb, le-leb}
 use Rattle.lines.specs.Lines.{taken_of, Next, bytes_of}
 use Rattle.lines.specs.declared.Step.{Step}
 use Rattle.lines.specs.declared.Line.{Line}
@@ -59,7 +59,7 @@ unfolding room_of
 room_few n = by (ltb 61000 n) refl where
   by : (b : Bool) → ltb 61000 n ≡ b → cond b 0 n ≤ 61000
   by true e = omega arith
-  by false e = ltb_false 61000 n e
+  by false e = ltb-false 61000 n e
 
 -- what is put whole where it fits, and fits
 fitting : (out s out' : List ℕ) (n r : ℕ) → Wrote out n s out' r → n + length s ≤ length out → (r ≡ n + length s) × (out' ≡ put_in out n s)

@@ -3,7 +3,7 @@ use mathlib.Core.Path.{◌≡◌, refl, ap}
 use mathlib.Core.Bool.{true, false, true≢false}
 use Prim.Native.Nat.{ℕ, ◌<◌, ◌≤◌, ◌/◌, ◌^◌, min}
 use native.Mathlib.Omega.{arith}
-use borrow.Author.Tests.{ltb_true}
+use borrow.Author.Tests.{ltb-true}
 use lib.Dec.{T}
 use lib.IntN.{ℤ, pos, negsuc, nat_abs}
 use lib.Signed.{lt_z, non_neg}
@@ -14,7 +14,7 @@ use Rattle.cells.specs.declared.Height.TheVariants.{Known}
 use Rattle.cells.specs.Cells.{not_below_zero, bucket_of}
 
 pub negative : (x : ℤ) → lt_z x (pos 0) ≡ true → 0 ≡ not_below_zero x
-negative (pos n) h = absurd (omega (arith, ltb_true n 0 h))
+negative (pos n) h = absurd (omega (arith, ltb-true n 0 h))
 negative (negsuc n) h = refl
 
 pub record Plain (x : ℤ) : Type 0 where

@@ -8,7 +8,7 @@ use Prim.Native.Nat.{ℕ, zero, suc, ◌+◌, ◌≤◌, ◌<◌}
 use native.Mathlib.Nat.{eq-or-lt_of_le, le_of_suc-le-suc, le_antisymm}
 use native.Mathlib.Numerals.{add-one}
 use native.Mathlib.Omega.{arith}
-use borrow.Author.Tests.{lt-ltb, le-ltb, ltb_true, ltb_false}
+use borrow.Author.Tests.{lt-ltb, le-ltb, ltb-true, ltb-false}
 use lib.Dec.{ltb}
 use lib.ListN.{length, get_or, take, set, length-append, get_or-append}
 use lib.Seq.{get_or_at, take-suc-set, take_all}
@@ -18,8 +18,8 @@ use Rattle.cells.specs.Passes.{pass, sum_of, how_many, some, first, table}
 pub lt_or_ge : (m n : ℕ) → (m < n) ⊎ (n ≤ m)
 lt_or_ge m n = by (ltb m n) refl where
   by : (b : Bool) → ltb m n ≡ b → (m < n) ⊎ (n ≤ m)
-  by true e = inl (ltb_true m n e)
-  by false e = inr (ltb_false m n e)
+  by true e = inl (ltb-true m n e)
+  by false e = inr (ltb-false m n e)
 
 -- ---- passes
 pub pass_next : {S : Type 0} (f : ℕ → S → S) (s : S) (i : ℕ) → pass f s (i + 1) ≡ f i (pass f s i)

@@ -6,7 +6,7 @@ use mathlib.Core.Bool.{Bool, true, false, cond, not, ◌&&◌}
 use mathlib.Core.List.{List}
 use lib.Dec.{eqb}
 use lib.ListN.{length, get_or, set}
-use borrow.Author.Tests.{not_true, not-false}
+use borrow.Author.Tests.{not-true, not-false}
 use Rattle.table.specs.Machine.{same}
 use Rattle.table.specs.Rows.{NONE, zero_key}
 use Rattle.receiver.specs.declared.Part.{Part}
@@ -133,7 +133,7 @@ pub start_key : (s : Cursor) (n at : ℕ) (b : Bool) (k : Key) (ks : List ℕ) �
 start_key s n at b k ks e f = ap (λ (c : Cursor). c.key) e ∙ sym f
 
 pub look_not : (xs : List Row) (m n : ℕ) (e : Ends) (k : Key) (t u : Bool) (r : Look) → n ≡ length xs → t ≡ sizes_of n m → u ≡ not t → u ≡ true → r ≡ L.No 1 → Looked xs m e k r
-look_not xs m n e k t u r long a b c d = looks_not xs m e k t r (a ∙ ap (λ (j : ℕ). sizes_of j m) long) (not_true t (sym b ∙ c)) d
+look_not xs m n e k t u r long a b c d = looks_not xs m e k t r (a ∙ ap (λ (j : ℕ). sizes_of j m) long) (not-true t (sym b ∙ c)) d
 
 pub look_fits : (xs : List Row) (m n : ℕ) (e : Ends) (k : Key) (t u : Bool) (s z a b : Cursor) (r : Look) → n ≡ length xs → t ≡ sizes_of n m → u ≡ not t → u ≡ false → s ≡ start_of n e.head true k → a ≡ scanned xs s → z ≡ start_of n e.free false k → b ≡ scanned xs z → r ≡ look_of n e.tail a b → Looked xs m e k r
 look_fits xs m n e k t u s z a b r long p q c s-is a-is z-is b-is d =

@@ -5,7 +5,7 @@ use Prim.Native.Nat.{ℕ, zero, suc, ◌+◌, ◌*◌, ◌/◌, ◌≤◌}
 use native.Mathlib.Omega.{arith}
 use mathlib.Core.Bool.{Bool, true, false, ◌&&◌}
 use mathlib.Core.List.{List, [], ◌∷◌, ◌++◌, map}
-use borrow.Author.Tests.{leb_true}
+use borrow.Author.Tests.{leb-true}
 use lib.Dec.{leb}
 use lib.ListN.{length, get_or, take, drop, length-take, length-drop, take-append-drop}
 use lib.Seq.{take_all}
@@ -73,12 +73,12 @@ module _ (ws : List ℕ) where
       simp (
         key_closed (w 0) (w 1) (w 2) (w 3) (drop 4 (each ws)) (and_1 key (low && (site && (numbers && verdict))) h),
         site_closed (w 4) (w 5) (w 6) (w 7) (w 8) (drop 9 (each ws)) (and_1 site (numbers && verdict) r2) (and_1 (heard.site_fits (site_of (drop 4 (each ws)))) (run.verdict_fits (verdict_of (drop 14 (each ws)))) g),
-        low_is (w 9) (leb_true (w 9) most32 (and_1 (leb (w 9) most32) (leb (w 21) most32 && leb (w 22) most32) l1)),
+        low_is (w 9) (leb-true (w 9) most32 (and_1 (leb (w 9) most32) (leb (w 21) most32 && leb (w 22) most32) l1)),
         id_closed (w 10) (w 11) (drop 12 (each ws)) (and_1 even (odd && clock) n1),
         id_closed (w 12) (w 13) (drop 14 (each ws)) (and_1 odd clock n2),
         verdict_closed (w 14) (w 15) (w 16) (w 17) (w 18) (w 19) (w 20) (drop 21 (each ws)) (and_2 numbers verdict r3),
-        low_is (w 21) (leb_true (w 21) most32 (and_1 (leb (w 21) most32) (leb (w 22) most32) l2)),
-        low_is (w 22) (leb_true (w 22) most32 (and_2 (leb (w 21) most32) (leb (w 22) most32) l2)),
+        low_is (w 21) (leb-true (w 21) most32 (and_1 (leb (w 21) most32) (leb (w 22) most32) l2)),
+        low_is (w 22) (leb-true (w 22) most32 (and_2 (leb (w 21) most32) (leb (w 22) most32) l2)),
         clock_closed (id_of (drop 23 (each ws))),
         id_closed (w 23) (w 24) [] (and_2 odd clock n2),
       )

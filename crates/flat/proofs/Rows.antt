@@ -6,7 +6,7 @@ use native.Mathlib.Omega.{arith}
 use native.Mathlib.Nat.{div-add-mod', mul-le-mul_right}
 use mathlib.Core.Bool.{Bool, true, false, cond}
 use mathlib.Core.List.{List, [], ◌∷◌, ◌++◌}
-use borrow.Author.Tests.{eq-eqb, ne_eqb, le-leb, leb_true, leb-false, lt-ltb, le-ltb, eqb_true}
+use borrow.Author.Tests.{eq-eqb, ne_eqb, le-leb, leb-true, leb-false, lt-ltb, le-ltb, eqb-true}
 use lib.Dec.{eqb, leb, ltb}
 use lib.ListN.{length, get_or, set, take, drop, length-append, length-take, length-drop, get_or-eq_default}
 use lib.Seq.{take_at, drop_at, take-append-le, drop-append-le, take-take, drop-drop, set_out, take-nil}
@@ -115,7 +115,7 @@ count_torn ws w e h =
 pub outside_whole : (ws : List ℕ) (w i z : ℕ) → w ≡ words_of_row → length ws % w ≡ 0 → z ≡ words_of_row * i + words_of_row → ltb (length ws) z ≡ leb (length (rows_of ws)) i
 outside_whole ws w i z e h ez =
     by_bool (leb m i)
-    (λ t. lt-ltb (length ws) z (let g : m ≤ i = leb_true m i t in omega (arith, g, c, end)) ∙ sym t)
+    (λ t. lt-ltb (length ws) z (let g : m ≤ i = leb-true m i t in omega (arith, g, c, end)) ∙ sym t)
     (λ t. le-ltb (length ws) z (let g : i < m = leb-false m i t in omega (arith, g, c, end)) ∙ sym t)
   where
     m : ℕ
@@ -144,7 +144,7 @@ unfolding rows_of
 has ws i h = by (eqb (length ws % words_of_row) 0) refl h
   where
     by : (b : Bool) → eqb (length ws % words_of_row) 0 ≡ b → i < length (cond b (rows_from (length ws / words_of_row) ws) []) → Has ws i
-    by true e g = record { all = ap (λ (b : Bool). cond b (rows_from (length ws / words_of_row) ws) []) e; even = eqb_true (length ws % words_of_row) 0 e; within = subst (λ (n : ℕ). i < n) (rows_long_lem (length ws / words_of_row) ws) g }
+    by true e g = record { all = ap (λ (b : Bool). cond b (rows_from (length ws / words_of_row) ws) []) e; even = eqb-true (length ws % words_of_row) 0 e; within = subst (λ (n : ℕ). i < n) (rows_long_lem (length ws / words_of_row) ws) g }
     by false e g = absurd (omega arith)
 
 room_for : (ws : List ℕ) (n i : ℕ) → length ws ≡ n * words_of_row → i < n → words_of_row * i + words_of_row ≤ length ws
@@ -159,10 +159,10 @@ module _ (ws : List ℕ) (i : ℕ) (t : Bool) (e : t ≡ leb (length (rows_of ws
   is_in_lem f = leb-false (length (rows_of ws)) i (sym e ∙ f)
 
   pub not_got : (r : Row) → t ≡ true → r ≡ blank → r ≡ get_or (rows_of ws) i blank
-  not_got r f g = g ∙ sym (get_or-eq_default (rows_of ws) blank {n = i} (leb_true (length (rows_of ws)) i (sym e ∙ f)))
+  not_got r f g = g ∙ sym (get_or-eq_default (rows_of ws) blank {n = i} (leb-true (length (rows_of ws)) i (sym e ∙ f)))
 
   pub not_put : (r : Row) → t ≡ true → rows_of ws ≡ set (rows_of ws) i r
-  not_put r f = sym (set_out (rows_of ws) i r (leb_true (length (rows_of ws)) i (sym e ∙ f)))
+  not_put r f = sym (set_out (rows_of ws) i r (leb-true (length (rows_of ws)) i (sym e ∙ f)))
 
 -- ONE ROW'S WORDS, from the a-th to before the z-th
 module _ (i a z : ℕ) (ea : a ≡ words_of_row * i) (ez : z ≡ words_of_row * i + words_of_row) (ys : List ℕ) where

@@ -2,7 +2,7 @@
 use mathlib.Core.Path.{◌≡◌, refl, sym, subst}
 use mathlib.Core.Bool.{Bool, true, false, not, cond}
 use Prim.Native.Nat.{ℕ, zero, suc, ◌+◌, ◌-◌, ◌*◌, ◌/◌, ◌^◌, ◌≤◌, ◌<◌}
-use native.Mathlib.Nat.{le_trans, le_of_eq, mul-le-mul_right, mul_assoc, mul_one, mul-pos, sub_le, zero-lt-suc}
+use native.Mathlib.Nat.{le_trans, le_of_eq, mul-le-mul_right, mul_assoc, mul-one, mul-pos, sub-le, zero-lt-suc}
 use native.Mathlib.Omega.{arith}
 use lib.Dec.{T, leb, ltb, eqb, leb→le, le→leb, ltb→lt, not_T}
 use lib.IntN.{ℤ, pos}
@@ -100,7 +100,7 @@ bounded (inf true) p h = absurd p
 bounded (inf false) p h = absurd h
 bounded (fin true m e) p h = absurd p
 bounded (fin false m e) p h =
-    le→leb (m * up e) (800 * down e) (subst (λ (y : ℕ). y ≤ 800 * down e) (mul_one (m * up e)) (leb→le (m * up e * 1) (25 * 2 ^ 5 * down e) (subst T (at_most (m * up e * 1) (25 * 2 ^ 5 * down e)) h)))
+    le→leb (m * up e) (800 * down e) (subst (λ (y : ℕ). y ≤ 800 * down e) (mul-one (m * up e)) (leb→le (m * up e * 1) (25 * 2 ^ 5 * down e) (subst T (at_most (m * up e * 1) (25 * 2 ^ 5 * down e)) h)))
 
 not_less : (a b : ℕ) → b < a → ltb a b ≡ false
 not_less a b h = is_false (ltb a b) (not_T (ltb a b) (λ (t : T (ltb a b)). no_both a b h (ltb→lt a b t)))
@@ -124,7 +124,7 @@ excess (fin false m e) (fin false n d) p q h =
     let c = down e * down d in
     let l : b < a = ltb→lt b a (subst T (sym h) tt) in
     let top : m * up e ≤ 800 * down e = leb→le (m * up e) (800 * down e) p in
-    let cross : (a - b) * 1 ≤ 800 * c = le_trans (le_of_eq (mul_one (a - b))) (le_trans (sub_le a b) (le_trans (mul-le-mul_right (down d) top) (le_of_eq (mul_assoc 800 (down e) (down d))))) in
+    let cross : (a - b) * 1 ≤ 800 * c = le_trans (le_of_eq (mul-one (a - b))) (le_trans (sub-le a b) (le_trans (mul-le-mul_right (down d) top) (le_of_eq (mul_assoc 800 (down e) (down d))))) in
     subst (λ (t : Bool). T (distance (cond t (round binary64 true (b - a) c) (round binary64 false (a - b) c)))) (sym (not_less a b l))
     (bounded (round binary64 false (a - b) c) (round_plus (a - b) c)
     (subst (λ (v : Float). T (le (round binary64 false (a - b) c) v)) most_is (round_mono binary64 (a - b) c 800 1 (mul-pos (down_pos e) (down_pos d)) (zero-lt-suc 0) cross)))

@@ -4,7 +4,7 @@ use Prim.Native.Nat.{ℕ, ◌+◌, ◌≤◌}
 use native.Mathlib.Omega.{arith}
 use mathlib.Core.Bool.{Bool, true, false, ◌&&◌}
 use mathlib.Core.List.{List, [], ◌∷◌, ◌++◌, append-nil}
-use borrow.Author.Tests.{eqb_true, eqb_false}
+use borrow.Author.Tests.{eqb-true, eqb-false}
 use lib.Dec.{eqb}
 use lib.ListN.{length, get_or}
 use Rattle.table.specs.Machine.{same}
@@ -16,7 +16,7 @@ use Rattle.packing.proofs.Keys.{word_back, bytes_long, key_in, key_back}
 
 same_bytes_lem : (x y : ℕ) → x ≤ most64 → y ≤ most64 → same (bytes_of 8 x) (bytes_of 8 y) ≡ eqb x y
 same_bytes_lem x y hx hy =
-    by_bool (eqb x y) (λ e. ap (λ (n : ℕ). same (bytes_of 8 x) (bytes_of 8 n)) (sym (eqb_true x y e)) ∙ same_refl (bytes_of 8 x) ∙ sym e) (λ e. by_bool (same (bytes_of 8 x) (bytes_of 8 y)) (λ s. absurd (eqb_false x y e (equal s))) (λ s. s ∙ sym e))
+    by_bool (eqb x y) (λ e. ap (λ (n : ℕ). same (bytes_of 8 x) (bytes_of 8 n)) (sym (eqb-true x y e)) ∙ same_refl (bytes_of 8 x) ∙ sym e) (λ e. by_bool (same (bytes_of 8 x) (bytes_of 8 y)) (λ s. absurd (eqb-false x y e (equal s))) (λ s. s ∙ sym e))
   where
     equal : same (bytes_of 8 x) (bytes_of 8 y) ≡ true → x ≡ y
     equal s = sym (word_back x hx) ∙ ap word_of (same_eq (bytes_of 8 x) (bytes_of 8 y) s) ∙ word_back y hy

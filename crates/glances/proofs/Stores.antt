@@ -4,7 +4,7 @@ use Prim.Native.Nat.{ℕ, ◌+◌, ◌≤◌}
 use native.Mathlib.Omega.{arith}
 use mathlib.Core.Bool.{Bool, true, cond, ◌&&◌}
 use mathlib.Core.List.{List, [], ◌∷◌, ◌++◌, append_assoc}
-use borrow.Author.Tests.{le-leb, leb_true}
+use borrow.Author.Tests.{le-leb, leb-true}
 use lib.Dec.{leb}
 use lib.ListN.{length, get_or, take, drop, length-append}
 use lib.Seq.{sets, sets-eq}
@@ -102,10 +102,10 @@ module _ (ws : List ℕ) (long : length ws ≡ 25) (fit : row_fits ws ≡ true) 
     small = and_2 (leb (get_or ws 9 0) most32) (leb (get_or ws 21 0) most32 && leb (get_or ws 22 0) most32) (and_1 (low ws) (rest ws) (and_2 (key ws) (low ws && rest ws) fit))
 
     small_prev : get_or ws 21 0 ≤ most32
-    small_prev = leb_true (get_or ws 21 0) most32 (and_1 (leb (get_or ws 21 0) most32) (leb (get_or ws 22 0) most32) small)
+    small_prev = leb-true (get_or ws 21 0) most32 (and_1 (leb (get_or ws 21 0) most32) (leb (get_or ws 22 0) most32) small)
 
     small_next : get_or ws 22 0 ≤ most32
-    small_next = leb_true (get_or ws 22 0) most32 (and_2 (leb (get_or ws 21 0) most32) (leb (get_or ws 22 0) most32) small)
+    small_next = leb-true (get_or ws 22 0) most32 (and_2 (leb (get_or ws 21 0) most32) (leb (get_or ws 22 0) most32) small)
 
     key_fits : key (each ws) ≡ true
     unfolding row_fits

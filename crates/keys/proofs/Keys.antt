@@ -5,7 +5,7 @@ use mathlib.Core.List.{List, [], ◌∷◌, ◌++◌}
 use Prim.Native.Nat.{ℕ, suc, ◌+◌, ◌-◌, ◌*◌, ◌%◌, ◌≤◌, ◌<◌}
 use native.Mathlib.Numerals.{add-one}
 use native.Mathlib.Omega.{arith}
-use borrow.Author.Tests.{lt-ltb, le-ltb, le-leb, lt-leb, leb_true}
+use borrow.Author.Tests.{lt-ltb, le-ltb, le-leb, lt-leb, leb-true}
 use lib.Dec.{ltb, leb}
 use lib.ListN.{length, get_or, take, drop, set, replicate}
 use lib.Seq.{take-suc-set, take_all}
@@ -37,7 +37,7 @@ key_hex s r n l e = rw (lt-ltb 0 (length s) (omega arith), le-leb (length s) 64 
 
 key_length : (s : List ℕ) → is_key s ≡ true → length s ≤ 64
 unfolding is_key
-key_length s e = leb_true (length s) 64 (by (ltb 0 (length s)) (leb (length s) 64) (all_digits 16 s) e) where
+key_length s e = leb-true (length s) 64 (by (ltb 0 (length s)) (leb (length s) 64) (all_digits 16 s) e) where
   by : (a b d : Bool) → (a && (b && d)) ≡ true → b ≡ true
   by true true d h = refl
   by true false d h = h

@@ -1,5 +1,5 @@
 -- The lines that write a watch: what lies behind its rows and cells stays, and a line that is refused changes nothing.
-use Rattle.std.proofs.Common.{◌≡◌, ℕ, zero, suc, ◌+◌, ◌*◌, ◌<◌, ◌≤◌, Bool, true, false, cond, ltb, leb, List, [], ◌∷◌, ◌++◌, length, take, drop, set, replicate, sym, refl, ap, ◌∙◌, append-nil, zero-add, add-one, arith, length-take-le, take_at, drop_at, le-ltb, lt-ltb, le-leb, leb_true}
+use Rattle.std.proofs.Common.{◌≡◌, ℕ, zero, suc, ◌+◌, ◌*◌, ◌<◌, ◌≤◌, Bool, true, false, cond, ltb, leb, List, [], ◌∷◌, ◌++◌, length, take, drop, set, replicate, sym, refl, ap, ◌∙◌, append-nil, zero-add, add-one, arith, length-take-le, take_at, drop_at, le-ltb, lt-ltb, le-leb, leb-true}
 use borrow.Author.Tests.{lt-leb}
 use lib.ListN.{length-replicate}
 use lib.Seq.{drop-length, sets, sets-eq}
@@ -72,7 +72,7 @@ unfolding lendable
 may_lend c n h k = rw (le-leb c 64 h, le-leb n 214016 k)
 
 lend_tests : (c n : ℕ) (s t : Bool) → leb c 64 ≡ s → leb n 214016 ≡ t → Done ≡ cond s (cond t Done (Wrong fault.TooManyCells)) (Wrong fault.TooManyRows) → (c ≤ 64) × (n ≤ 214016)
-lend_tests c n true true e f h = (leb_true c 64 e, leb_true n 214016 f)
+lend_tests c n true true e f h = (leb-true c 64 e, leb-true n 214016 f)
 lend_tests c n true false e f h = let z : ◌≡◌ {A = ℕ} 0 1 = cc in absurd (omega arith)
 lend_tests c n false t e f h = let z : ◌≡◌ {A = ℕ} 0 1 = cc in absurd (omega arith)
 

@@ -5,7 +5,7 @@ use mathlib.Core.Bool.{Bool, true, false, not, ◌&&◌}
 use mathlib.Core.List.{List}
 use lib.Dec.{eqb, leb}
 use lib.ListN.{length, replicate}
-use borrow.Author.Tests.{not_true, not-false, leb_true}
+use borrow.Author.Tests.{not-true, not-false, leb-true}
 use Rattle.table.specs.Questions.{most}
 use Rattle.table.proofs.Tests.{and_1, and_2}
 use Rattle.cells.specs.Cells.{empty_word}
@@ -30,11 +30,11 @@ module _ (xs : List Row) (n m : ℕ) (t u : Bool) (long : n ≡ length xs) (test
   unfolding most
   few_rows h =
       let o : sizes_of n m ≡ true = sym test ∙ not-false t (sym other ∙ h) in
-      leb_true n most (and_1 (leb n most) (eqb m (width * n)) (and_2 (leb 1 n) (leb n most && eqb m (width * n)) o))
+      leb-true n most (and_1 (leb n most) (eqb m (width * n)) (and_2 (leb 1 n) (leb n most && eqb m (width * n)) o))
 
   module _ (ys ws : List ℕ) (cells : m ≡ length ys) where
     pub fresh_not : (r : Answer) → u ≡ true → r ≡ saying (Wd.Refused 1) → outcome r xs ys ws ≡ fresh_call (watch_is xs ys ws)
-    fresh_not r h q = fresh_no xs ys ws t r (sizes ∙ ap (sizes_of (length xs)) cells) (not_true t (sym other ∙ h)) q
+    fresh_not r h q = fresh_no xs ys ws t r (sizes ∙ ap (sizes_of (length xs)) cells) (not-true t (sym other ∙ h)) q
 
     pub fresh_made : (zs : List Row) (cs vs : List ℕ) (d : Ends) (r : Answer) → u ≡ false → zs ≡ fresh_from n 0 n → cs ≡ replicate (length ys) empty_word → d ≡ fresh_ends → ends_is vs ≡ ends_of d → r ≡ saying Wd.Done → outcome r zs cs vs ≡ fresh_call (watch_is xs ys ws)
     fresh_made zs cs vs d r h z c q k v = fresh_yes xs ys ws t zs cs vs d r (sizes ∙ ap (sizes_of (length xs)) cells) (not-false t (sym other ∙ h)) (z ∙ ap (λ (j : ℕ). fresh_from j 0 j) long) c q k v

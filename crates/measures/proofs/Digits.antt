@@ -1,5 +1,5 @@
 -- A float from 1 up to below 2 ^ 53: its pattern's exponent is at most 1075, so that its digits are cut and never filled up. Assumes nothing.
-use Rattle.std.proofs.Common.{◌≡◌, ℕ, ◌+◌, ◌-◌, ◌*◌, ◌/◌, ◌^◌, ◌<◌, ◌≤◌, Bool, true, false, ◌||◌, T, pos, sym, refl, subst, le_trans, le_of_eq, lt_of_lt_of_le, div-lt_iff_lt-mul, mul_one, arith, ltb→lt, pow_pos, pow_mono, pow-add}
+use Rattle.std.proofs.Common.{◌≡◌, ℕ, ◌+◌, ◌-◌, ◌*◌, ◌/◌, ◌^◌, ◌<◌, ◌≤◌, Bool, true, false, ◌||◌, T, pos, sym, refl, subst, le_trans, le_of_eq, lt_of_lt_of_le, div-lt_iff_lt-mul, mul-one, arith, ltb→lt, pow_pos, pow_mono, pow-add}
 use lib.Ieee.{Float, nan, inf, fin, binary64, up, down, size, lt, eq, le, fits, to_bits, to_unsigned}
 use lib.Ieee.Fits.{down_pos}
 use lib.Ieee.Digits.{size-lt, size-le}
@@ -23,7 +23,7 @@ unfolding lt
 small nan p l = absurd p
 small (inf s) p l = absurd p
 small (fin true m e) p l = absurd p
-small (fin false m e) p l = subst (λ (k : ℕ). k < 2 ^ 53 * down e) (mul_one (m * up e)) (ltb→lt (m * up e * 1) (1 * 2 ^ 53 * down e) l)
+small (fin false m e) p l = subst (λ (k : ℕ). k < 2 ^ 53 * down e) (mul-one (m * up e)) (ltb→lt (m * up e * 1) (1 * 2 ^ 53 * down e) l)
 
 -- the digits of a pattern
 digits_lt : (a : ℕ) → a / 2 ^ (size a - 53) < 2 ^ 53

@@ -1,5 +1,5 @@
 -- A distance of at most 800, divided by 5 in f64: the quotient is at most 160, since rounding keeps the order. Assumes nothing.
-use Rattle.std.proofs.Common.{◌≡◌, ℕ, zero, suc, ◌+◌, ◌*◌, ◌^◌, ◌<◌, ◌≤◌, max, Bool, true, false, cond, not, T, ltb, pos, sym, refl, subst, zero-lt-suc, div-lt_iff_lt-mul, mul-pos, mul_one, arith, lt→ltb, leb→le}
+use Rattle.std.proofs.Common.{◌≡◌, ℕ, zero, suc, ◌+◌, ◌*◌, ◌^◌, ◌<◌, ◌≤◌, max, Bool, true, false, cond, not, T, ltb, pos, sym, refl, subst, zero-lt-suc, div-lt_iff_lt-mul, mul-pos, mul-one, arith, lt→ltb, leb→le}
 use lib.Ieee.{Float, nan, inf, fin, binary64, up, down, odd, units, round, div, lt, eq, le}
 use lib.Ieee.Fits.{down_pos, round_is}
 use lib.Ieee.Order.{round_mono}
@@ -52,7 +52,7 @@ small (inf false) p h = absurd h
 small (fin true m e) p h = absurd p
 small (fin false m e) p h =
     let l : m * up e * 1 ≤ 5 * 2 ^ 5 * down e = leb→le (m * up e * 1) (5 * 2 ^ 5 * down e) (subst T (at_most (m * up e * 1) (5 * 2 ^ 5 * down e)) h) in
-    let b : m * up e ≤ 160 * down e = subst (λ (y : ℕ). y ≤ 160 * down e) (mul_one (m * up e)) l in
+    let b : m * up e ≤ 160 * down e = subst (λ (y : ℕ). y ≤ 160 * down e) (mul-one (m * up e)) l in
     record { counts = lt→ltb (m * up e) (2 ^ 52 * down e) (less (m * up e) (down e) (down_pos e) b); bound = at_last (nearest_up (m * up e) (down e)) ((div-lt_iff_lt-mul (mul-pos (zero-lt-suc 1) (down_pos e))).1 (under (m * up e) (down e) (down_pos e) b)) }
   where
     less : (a d : ℕ) → 0 < d → a ≤ 160 * d → a < 2 ^ 52 * d

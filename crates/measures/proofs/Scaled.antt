@@ -1,5 +1,5 @@
 -- A float times a power of two, exactly; and a value cut or rounded to a whole number. Assumes nothing.
-use Rattle.std.proofs.Common.{◌≡◌, ℕ, ◌+◌, ◌-◌, ◌*◌, ◌/◌, ◌^◌, ◌<◌, ◌≤◌, min, Bool, true, false, T, ℤ, pos, sym, refl, ap, ◌∙◌, subst, le_trans, le_of_eq, lt_of_lt_of_le, lt_of_le_of_lt, le_of_lt, mul-le-mul_right, mul_assoc, mul_comm, div-lt_iff_lt-mul, lt_of_mul-lt-mul_right, mul-lt-mul_of_pos_right, mul-pos, one-mul, mul_one, mul_right_comm, le_of_mul-le-mul_right, arith, ltb→lt, lt→ltb, pow_pos, pow-add}
+use Rattle.std.proofs.Common.{◌≡◌, ℕ, ◌+◌, ◌-◌, ◌*◌, ◌/◌, ◌^◌, ◌<◌, ◌≤◌, min, Bool, true, false, T, ℤ, pos, sym, refl, ap, ◌∙◌, subst, le_trans, le_of_eq, lt_of_lt_of_le, lt_of_le_of_lt, le_of_lt, mul-le-mul_right, mul_assoc, mul_comm, div-lt_iff_lt-mul, lt_of_mul-lt-mul_right, mul-lt-mul_of_pos_right, mul-pos, one-mul, mul-one, mul_right_comm, le_of_mul-le-mul_right, arith, ltb→lt, lt→ltb, pow_pos, pow-add}
 use native.Mathlib.Nat.{add-div_right, div-div-eq-div-mul, div-eq_of_lt}
 use lib.Pow.{pow-lt}
 use lib.Ieee.{Float, nan, inf, fin, binary64, unlike, up, down, round, mul, lt, fits, to_unsigned}
@@ -31,7 +31,7 @@ scaled s m e t f small =
     let is : mul binary64 (fin s m e) (fin false 1 (pos t)) ≡ round binary64 s (m * up e * 2 ^ t) d =
     ap (λ (b : Bool). round binary64 b (m * up e * (1 * 2 ^ t)) (d * 1)) (kept s)
     ∙ ap (λ (n : ℕ). round binary64 s (m * up e * n) (d * 1)) (one-mul (2 ^ t))
-    ∙ ap (λ (n : ℕ). round binary64 s (m * up e * 2 ^ t) n) (mul_one d) in
+    ∙ ap (λ (n : ℕ). round binary64 s (m * up e * 2 ^ t) n) (mul-one d) in
     subst (λ (r : Float). HasValue r s (m * up e * 2 ^ t) d) (sym is)
     (round_exact binary64 s (m * up e * 2 ^ t) d m (j + t) (down_pos e) (digits s m e f) (lt_of_le_of_lt at_most (pow-lt {i = 1134} {j = 2098} (omega arith))) same)
 
@@ -41,7 +41,7 @@ pub under : (x a d c b : ℕ) → 0 < c → 0 < d → x * c ≡ a * d → a < b 
 under x a d c b C D e h = lt_of_mul-lt-mul_right c (lt_of_le_of_lt (le_of_eq e) (lt_of_lt_of_le (mul-lt-mul_of_pos_right h D) (le_of_eq (mul_right_comm b c d))))
 
 below : (x b d : ℕ) → x < b * d → x * 1 < 1 * b * d
-below x b d h = subst (λ (k : ℕ). x * 1 < k * d) (sym (one-mul b)) (subst (λ (k : ℕ). k < b * d) (sym (mul_one x)) h)
+below x b d h = subst (λ (k : ℕ). x * 1 < k * d) (sym (one-mul b)) (subst (λ (k : ℕ). k < b * d) (sym (mul-one x)) h)
 
 pub in_range : (w : ℕ) (z : Float) (s : Bool) (a c : ℕ) → 0 < c → HasValue z s a c → (T s → a < 1 * c) → a < 2 ^ w * c → T (lt (fin true 1 (pos 0)) z) × T (lt z (fin false 1 (pos w)))
 unfolding lt

@@ -1,5 +1,5 @@
 -- The two comparisons of a range test, together. Assumes nothing.
-use Rattle.std.proofs.Common.{◌≡◌, ℕ, ◌+◌, ◌*◌, ◌^◌, ◌<◌, ◌≤◌, Bool, true, false, not, ◌&&◌, ◌||◌, T, eqb, ltb, leb, pos, sym, refl, ap, ◌∙◌, le_of_eq, le_of_lt, mul-pos, mul_one, arith, le→leb, eqb→eq, ltb→lt, lt→ltb, leb→le, nltb→le}
+use Rattle.std.proofs.Common.{◌≡◌, ℕ, ◌+◌, ◌*◌, ◌^◌, ◌<◌, ◌≤◌, Bool, true, false, not, ◌&&◌, ◌||◌, T, eqb, ltb, leb, pos, sym, refl, ap, ◌∙◌, le_of_eq, le_of_lt, mul-pos, mul-one, arith, le→leb, eqb→eq, ltb→lt, lt→ltb, leb→le, nltb→le}
 use lib.Ieee.{Float, nan, inf, fin, up, down, lt, eq, le}
 use lib.Ieee.Fits.{down_pos, eq→eqb}
 use Rattle.measures.specs.Degrees.{within}
@@ -43,7 +43,7 @@ range n k (inf false) h = refl
 range n k (fin false m e) h =
     pair (or_yes (ltb 0 (n * 2 ^ k * down e + m * up e * 1)) (eqb (n * 2 ^ k * down e) (m * up e * 1) && (false || eqb (n * 2 ^ k * down e) 0)) (lt→ltb 0 (n * 2 ^ k * down e + m * up e * 1) (some (n * 2 ^ k * down e) (m * up e * 1) (mul-pos h (down_pos e)))))
     (at_most (m * up e * 1) (n * 2 ^ k * down e))
-    ∙ ap (λ (v : ℕ). leb v (n * 2 ^ k * down e)) (mul_one (m * up e))
+    ∙ ap (λ (v : ℕ). leb v (n * 2 ^ k * down e)) (mul-one (m * up e))
   where
     some : (a b : ℕ) → 0 < a → 0 < a + b
     some a b h = omega arith
@@ -51,7 +51,7 @@ range n k (fin true m e) h =
     pair (ap (λ (b : Bool). ltb (m * up e * 1) (n * 2 ^ k * down e) || (b && true)) (flip (n * 2 ^ k * down e) (m * up e * 1)) ∙ at_most (m * up e * 1) (n * 2 ^ k * down e))
     (or_yes (ltb 0 (m * up e * 1 + n * 2 ^ k * down e)) (eqb (m * up e * 1) (n * 2 ^ k * down e) && (false || eqb (m * up e * 1) 0)) (lt→ltb 0 (m * up e * 1 + n * 2 ^ k * down e) (some (m * up e * 1) (n * 2 ^ k * down e) (mul-pos h (down_pos e)))))
     ∙ and_true (leb (m * up e * 1) (n * 2 ^ k * down e))
-    ∙ ap (λ (v : ℕ). leb v (n * 2 ^ k * down e)) (mul_one (m * up e))
+    ∙ ap (λ (v : ℕ). leb v (n * 2 ^ k * down e)) (mul-one (m * up e))
   where
     some : (a b : ℕ) → 0 < b → 0 < a + b
     some a b h = omega arith

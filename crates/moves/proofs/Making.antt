@@ -6,7 +6,7 @@ use mathlib.Core.Bool.{Bool, true, false, ◌&&◌}
 use mathlib.Core.List.{List, map}
 use lib.Dec.{eqb, leb}
 use lib.ListN.{length, replicate}
-use borrow.Author.Tests.{eqb_true, leb_true}
+use borrow.Author.Tests.{eqb-true, leb-true}
 use Rattle.table.specs.Machine.{Step}
 use Rattle.table.specs.Rows.{Watch}
 use Rattle.table.specs.Questions.{most, question1}
@@ -49,8 +49,8 @@ fresh_yes xs ys ws t zs cs vs d r e h z c q k v =
     let o : sizes_of (length xs) (length ys) ≡ true = sym e ∙ h in
     let s : question1 form (watch_is xs ys ws) ≡ true = sizes_so xs ys ws ∙ o in
     let b = and_2 (leb 1 (length xs)) (leb (length xs) most && eqb (length ys) (width * length xs)) o in
-    let some_row : 1 ≤ length xs = leb_true 1 (length xs) (and_1 (leb 1 (length xs)) (leb (length xs) most && eqb (length ys) (width * length xs)) o) in
-    let most-rows : length xs ≤ 4096 = leb_true (length xs) most (and_1 (leb (length xs) most) (eqb (length ys) (width * length xs)) b) in
-    let many : length ys ≡ width * length xs = eqb_true (length ys) (width * length xs) (and_2 (leb (length xs) most) (eqb (length ys) (width * length xs)) b) in
+    let some_row : 1 ≤ length xs = leb-true 1 (length xs) (and_1 (leb 1 (length xs)) (leb (length xs) most && eqb (length ys) (width * length xs)) o) in
+    let most-rows : length xs ≤ 4096 = leb-true (length xs) most (and_1 (leb (length xs) most) (eqb (length ys) (width * length xs)) b) in
+    let many : length ys ≡ width * length xs = eqb-true (length ys) (width * length xs) (and_2 (leb (length xs) most) (eqb (length ys) (width * length xs)) b) in
     let made : watch_is zs cs vs ≡ fresh_watch form (length (map row_is xs)) = rw (rows_long_lem xs, k, q, z, c, many, cells_are (length xs), rows_are (length xs) 0 (length xs) (omega arith) most-rows, eqb_no (length xs) 0 (λ x. omega (arith, x, some_row))) in
     ap₂ {C = Step (Watch Part) Out} (λ (x : Watch Part) (y : Answer). record { next = x; answer = answer_is y }) made v ∙ sym (rw s)

@@ -6,7 +6,7 @@ use mathlib.Core.List.{List, [], ◌∷◌}
 use Prim.Native.Nat.{ℕ, zero, suc, ◌+◌, ◌≤◌, ◌<◌}
 use native.Mathlib.Nat.{zero-add}
 use native.Mathlib.Omega.{arith}
-use borrow.Author.Tests.{lt-ltb, le-ltb, ltb_true, ltb_false, lt-leb, leb_true, leb-false}
+use borrow.Author.Tests.{lt-ltb, le-ltb, ltb-true, ltb-false, lt-leb, leb-true, leb-false}
 use lib.Dec.{leb, ltb}
 use lib.ListN.{length, get_or}
 use Rattle.cells.specs.Passes.{pass, how_many}
@@ -17,8 +17,8 @@ use Rattle.around.proofs.Marked.{and_true}
 ltb_same : (m n a b : ℕ) → (m < n → a < b) → (n ≤ m → b ≤ a) → ltb m n ≡ ltb a b
 ltb_same m n a b f g = by (ltb m n) refl where
   by : (t : Bool) → ltb m n ≡ t → ltb m n ≡ ltb a b
-  by true e = e ∙ sym (lt-ltb a b (f (ltb_true m n e)))
-  by false e = e ∙ sym (le-ltb a b (g (ltb_false m n e)))
+  by true e = e ∙ sym (lt-ltb a b (f (ltb-true m n e)))
+  by false e = e ∙ sym (le-ltb a b (g (ltb-false m n e)))
 
 -- ---- the weights of those that have p
 unfoldable pub sum_where : {A : Type 0} → (A → Bool) → (A → ℕ) → List A → ℕ
@@ -64,7 +64,7 @@ module _ {A : Type 0} (key : A → ℕ) where
   from_put : (b : ℕ) (a e : A) (l : List A) (t : Bool) → leb (key a) (key e) ≡ t → b ≤ key a → From b (e ∷ l)
       → (key e ≤ key a → From (key e) (insert key a l)) → From b (cond t (a ∷ e ∷ l) (e ∷ insert key a l))
   unfolding From
-  from_put b a e l true h ba f r = (ba, (leb_true (key a) (key e) h, f.1))
+  from_put b a e l true h ba f r = (ba, (leb-true (key a) (key e) h, f.1))
   from_put b a e l false h ba f r = (f.0, r (omega (arith, leb-false (key a) (key e) h)))
 
   from_insert : (b : ℕ) (a : A) (l : List A) → b ≤ key a → From b l → From b (insert key a l)

@@ -3,7 +3,7 @@ use mathlib.Core.Path.{◌≡◌, sym, ap, ◌∙◌}
 use mathlib.Core.Bool.{Bool, true, false}
 use mathlib.Core.List.{List}
 use Prim.Native.Nat.{ℕ, ◌*◌, ◌≤◌, ◌<◌, max}
-use borrow.Author.Tests.{ltb_true, ltb_false, le-leb, lt-leb}
+use borrow.Author.Tests.{ltb-true, ltb-false, le-leb, lt-leb}
 use lib.Dec.{ltb}
 use Rattle.view.specs.declared.Far.{Far}
 use Rattle.plane.specs.Plane.{steps, said}
@@ -21,7 +21,7 @@ module _ (grid : List ℕ) (far : Far) (sum : ℕ) (is : sum ≡ positions_in (p
     some_near h =
         rw (
           le-leb 60 (positions_in (places_heard grid far)) (rw is at enough),
-          lt-leb (km 60) (third (places_heard grid far)).nearest (ltb_true (third (places_heard grid far)).nearest (km 60) (sym third-is ∙ h)),
+          lt-leb (km 60) (third (places_heard grid far)).nearest (ltb-true (third (places_heard grid far)).nearest (km 60) (sym third-is ∙ h)),
         )
 
     pub is_off : near ≡ false → (k off : ℕ) → k ≡ steps (typical_in (from_third (places_heard grid far))) 1 → off ≡ 5 * max 1 k → Off off ≡ nothing_near grid far
@@ -29,6 +29,6 @@ module _ (grid : List ℕ) (far : Far) (sum : ℕ) (is : sum ≡ positions_in (p
     is_off h k off e o =
         rw (
           le-leb 60 (positions_in (places_heard grid far)) (rw is at enough),
-          le-leb (km 60) (third (places_heard grid far)).nearest (ltb_false (third (places_heard grid far)).nearest (km 60) (sym third-is ∙ h)),
+          le-leb (km 60) (third (places_heard grid far)).nearest (ltb-false (third (places_heard grid far)).nearest (km 60) (sym third-is ∙ h)),
         )
         (ap Off (o ∙ ap (λ (n : ℕ). 5 * max 1 n) e))

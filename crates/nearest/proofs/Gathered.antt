@@ -6,7 +6,7 @@ use Prim.Native.Nat.{ℕ, zero, suc, ◌+◌, ◌≤◌, ◌<◌, ◌*◌}
 use native.Mathlib.Numerals.{add-one}
 use native.Mathlib.Omega.{arith}
 use native.Mathlib.Nat.{add-zero}
-use borrow.Author.Tests.{eqb_true, eqb_false, ltb_true, ltb_false, lt-ltb, le-ltb}
+use borrow.Author.Tests.{eqb-true, eqb-false, ltb-true, ltb-false, lt-ltb, le-ltb}
 use lib.Dec.{ltb, eqb}
 use lib.ListN.{length, get_or, set, replicate, length-set, length-replicate}
 use lib.Seq.{get_or-set_same, get_or-set_other, set-get_or}
@@ -52,8 +52,8 @@ no_steps_length = length-replicate {A = ℕ} 161 0
 other : (s k : ℕ) → (s ≡ k → ⊥) → ltb s (suc k) ≡ ltb s k
 other s k h = by (ltb s k) refl where
   by : (t : Bool) → ltb s k ≡ t → ltb s (suc k) ≡ ltb s k
-  by true e = lt-ltb s (suc k) (omega (arith, ltb_true s k e)) ∙ sym e
-  by false e = le-ltb s (suc k) (apart s k h (ltb_false s k e)) ∙ sym e where
+  by true e = lt-ltb s (suc k) (omega (arith, ltb-true s k e)) ∙ sym e
+  by false e = le-ltb s (suc k) (apart s k h (ltb-false s k e)) ∙ sym e where
     apart : (s k : ℕ) → (s ≡ k → ⊥) → k ≤ s → suc k ≤ s
     apart s k h l = omega arith
 
@@ -63,7 +63,7 @@ module _ (at : List ℕ) (s v : ℕ) (l : s < length at) where
 
   next : (k : ℕ) (t : Bool) → eqb s k ≡ t → below to k ≡ below at k + cond (ltb s k) v 0 → below to (suc k) ≡ below at (suc k) + cond (ltb s (suc k)) v 0
   next k true e h =
-      let q : s ≡ k = eqb_true s k e in
+      let q : s ≡ k = eqb-true s k e in
       let f = below_suc to k in
       let g = below_suc at k in
       let old : below to k ≡ below at k + 0 = h ∙ ap (λ (b : Bool). below at k + cond b v 0) (le-ltb s k (omega arith)) in
@@ -72,8 +72,8 @@ module _ (at : List ℕ) (s v : ℕ) (l : s < length at) where
   next k false e h =
       let f = below_suc to k in
       let g = below_suc at k in
-      let new : get_or to k 0 ≡ get_or at k 0 = get_or-set_other at s k (get_or at s 0 + v) 0 (λ q. eqb_false s k e (sym q)) in
-      rw (other s k (eqb_false s k e)) (omega arith)
+      let new : get_or to k 0 ≡ get_or at k 0 = get_or-set_other at s k (get_or at s 0 + v) 0 (λ q. eqb-false s k e (sym q)) in
+      rw (other s k (eqb-false s k e)) (omega arith)
 
   pub raised : (k : ℕ) → below to k ≡ below at k + cond (ltb s k) v 0
   raised zero = let e = below_zero to in let f = below_zero at in rw (le-ltb s 0 (omega arith)) (omega arith)

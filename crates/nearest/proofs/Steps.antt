@@ -6,7 +6,7 @@ use mathlib.Core.List.{List, [], ◌∷◌}
 use Prim.Native.Nat.{ℕ, zero, suc, ◌+◌, ◌-◌, ◌*◌, ◌≤◌, ◌<◌, ◌%◌}
 use native.Mathlib.Nat.{eq-or-lt_of_le, le_of_suc-le-suc, mod-lt, zero-lt-suc}
 use native.Mathlib.Omega.{arith}
-use borrow.Author.Tests.{leb_true, ltb_true, lt-ltb, le-ltb}
+use borrow.Author.Tests.{leb-true, ltb-true, lt-ltb, le-ltb}
 use lib.Dec.{leb, ltb, leb-suc-suc}
 use lib.ListN.{get_or}
 use Rattle.cells.proofs.Passes.{first_le, first_bound, first_unique}
@@ -49,7 +49,7 @@ pub steps_within : (d k : ℕ) → k < 160 → leb d (limit k) ≡ ltb (steps d 
 unfolding steps limit odd
 steps_within d k l =
     sym (leb-suc-suc d (odd k - 1)) ∙ ap (ltb d) (let h = odd_pos k in let e : suc (odd k - 1) ≡ odd k = omega arith in e)
-    ∙ sym (first_bound (λ (k : ℕ). ltb d (odd k)) (λ a b h e. lt-ltb d (odd b) (omega (arith, ltb_true d (odd a) e, square_le {m = (2 * a + 1) * 1} {n = (2 * b + 1) * 1} (omega arith)))) 160 k l)
+    ∙ sym (first_bound (λ (k : ℕ). ltb d (odd k)) (λ a b h e. lt-ltb d (odd b) (omega (arith, ltb-true d (odd a) e, square_le {m = (2 * a + 1) * 1} {n = (2 * b + 1) * 1} (omega arith)))) 160 k l)
 
 pub step_small : (d : ℕ) → steps d 1 < 161
 unfolding steps
@@ -64,10 +64,10 @@ unfolding is_step odd steps
 step_is d t e =
     let e2 = right (leb 1 t) (leb t 160 && (leb (odd (t - 1)) d && ltb d (odd t))) e in
     let e3 = right (leb t 160) (leb (odd (t - 1)) d && ltb d (odd t)) e2 in
-    let one : 1 ≤ t = leb_true 1 t (left (leb 1 t) (leb t 160 && (leb (odd (t - 1)) d && ltb d (odd t))) e) in
-    let low : odd (t - 1) ≤ d = leb_true (odd (t - 1)) d (left (leb (odd (t - 1)) d) (ltb d (odd t)) e3) in
+    let one : 1 ≤ t = leb-true 1 t (left (leb 1 t) (leb t 160 && (leb (odd (t - 1)) d && ltb d (odd t))) e) in
+    let low : odd (t - 1) ≤ d = leb-true (odd (t - 1)) d (left (leb (odd (t - 1)) d) (ltb d (odd t)) e3) in
     sym
-    (first_unique (λ (k : ℕ). ltb d (odd k)) 160 t (leb_true t 160 (left (leb t 160) (leb (odd (t - 1)) d && ltb d (odd t)) e2))
+    (first_unique (λ (k : ℕ). ltb d (odd k)) 160 t (leb-true t 160 (left (leb t 160) (leb (odd (t - 1)) d && ltb d (odd t)) e2))
     (λ j l. le-ltb d (odd j) (omega (arith, square_le {m = (2 * j + 1) * 1} {n = (2 * (t - 1) + 1) * 1} (omega arith))))
     (λ l. right (leb (odd (t - 1)) d) (ltb d (odd t)) e3))
 

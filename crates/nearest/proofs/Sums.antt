@@ -6,7 +6,7 @@ use mathlib.Core.List.{List}
 use Prim.Native.Nat.{ℕ, zero, suc, ◌+◌, ◌*◌, ◌≤◌, ◌<◌}
 use native.Mathlib.Nat.{eq-or-lt_of_le}
 use native.Mathlib.Omega.{arith}
-use borrow.Author.Tests.{ltb_false}
+use borrow.Author.Tests.{ltb-false}
 use lib.ListN.{get_or}
 use Rattle.cells.specs.Cells.{count_of, occupied_word}
 use Rattle.cells.specs.Passes.{pass, sum_of}
@@ -70,4 +70,4 @@ module _ (words : List ℕ) where
   seen_one seen c i e h = sum_step (λ (i : ℕ). true) (λ (i : ℕ). count_of (get_or words i 0)) seen c i e h
 
   pub seen_none : (seen i : ℕ) → seen ≡ positions_among words i → occupied_word (get_or words i 0) ≡ false → seen ≡ positions_among words (i + 1)
-  seen_none seen i e h = omega (arith, seen_one seen (count_of (get_or words i 0)) i e refl, ltb_false 0 (count_of (get_or words i 0)) h)
+  seen_none seen i e h = omega (arith, seen_one seen (count_of (get_or words i 0)) i e refl, ltb-false 0 (count_of (get_or words i 0)) h)

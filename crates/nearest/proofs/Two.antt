@@ -7,7 +7,7 @@ use mathlib.Core.List.{List, [], ◌∷◌, ◌++◌, append-nil, append_assoc}
 use Prim.Native.Nat.{ℕ, zero, suc, ◌+◌, ◌*◌, ◌≤◌, ◌<◌, ◌%◌}
 use native.Mathlib.Nat.{mod-lt, zero-lt-suc}
 use native.Mathlib.Omega.{arith}
-use borrow.Author.Tests.{eqb_true, ltb_true, lt-ltb, le-ltb, le-leb, lt-leb}
+use borrow.Author.Tests.{eqb-true, ltb-true, lt-ltb, le-ltb, le-leb, lt-leb}
 use lib.Dec.{leb, ltb, eqb}
 use lib.ListN.{get_or}
 use Rattle.cells.specs.Cells.{count_of, occupied_word}
@@ -184,7 +184,7 @@ edges_right = refl
 
 pub edge_square : (j : ℕ) → get_or edge_squares (j % 9) 0 ≡ km (get_or edges (j % 9) 0)
 edge_square j =
-    eqb_true (get_or edge_squares (j % 9) 0) (km (get_or edges (j % 9) 0)) (every_at (λ (b : ℕ). eqb (get_or edge_squares b 0) (km (get_or edges b 0))) 9 edges_right (j % 9) (mod-lt j (zero-lt-suc 8)))
+    eqb-true (get_or edge_squares (j % 9) 0) (km (get_or edges (j % 9) 0)) (every_at (λ (b : ℕ). eqb (get_or edge_squares b 0) (km (get_or edges b 0))) 9 edges_right (j % 9) (mod-lt j (zero-lt-suc 8)))
 
 -- ---- no cell and no bin is farther than none
 cell_low : (i : ℕ) → i < 1600 → from_site i < 1048576
@@ -194,7 +194,7 @@ cell_low i l =
 
 bin_low : (j : ℕ) → km (get_or edges (j % 9) 0) < 1048576
 unfolding km square edges every
-bin_low j = ltb_true (km (get_or edges (j % 9) 0)) 1048576 (every_at (λ (b : ℕ). ltb (km (get_or edges b 0)) 1048576) 9 refl (j % 9) (mod-lt j (zero-lt-suc 8)))
+bin_low j = ltb-true (km (get_or edges (j % 9) 0)) 1048576 (every_at (λ (b : ℕ). ltb (km (get_or edges b 0)) 1048576) 9 refl (j % 9) (mod-lt j (zero-lt-suc 8)))
 
 module _ (grid : List ℕ) (far : Far) where
   -- the cells', and with the bins those of all places

@@ -6,7 +6,7 @@ use mathlib.Core.List.{List, [], ◌∷◌, ◌++◌}
 use Prim.Native.Nat.{ℕ, zero, suc, ◌+◌, ◌-◌, ◌%◌, ◌<◌}
 use native.Mathlib.Nat.{mod-lt, zero-lt-suc, add-zero}
 use native.Mathlib.Omega.{arith}
-use borrow.Author.Tests.{ltb_true, lt-ltb, lt-leb}
+use borrow.Author.Tests.{ltb-true, lt-ltb, lt-leb}
 use lib.Dec.{leb, ltb}
 use lib.ListN.{length, get_or}
 use Rattle.cells.specs.Cells.{count_of, occupied_word}
@@ -79,7 +79,7 @@ places_counted grid far =
 -- ---- under 60 km: no bin is, since the first edge is 100 km
 far_bin_lem : (j : ℕ) → leb (km (get_or edges (j % 9) 0)) (km 60 - 1) ≡ false
 unfolding km square edges every
-far_bin_lem j = lt-leb (km (get_or edges (j % 9) 0)) (km 60 - 1) (ltb_true (km 60 - 1) (km (get_or edges (j % 9) 0)) (every_at (λ (b : ℕ). ltb (km 60 - 1) (km (get_or edges b 0))) 9 refl (j % 9) (mod-lt j (zero-lt-suc 8))))
+far_bin_lem j = lt-leb (km (get_or edges (j % 9) 0)) (km 60 - 1) (ltb-true (km 60 - 1) (km (get_or edges (j % 9) 0)) (every_at (λ (b : ℕ). ltb (km 60 - 1) (km (get_or edges b 0))) 9 refl (j % 9) (mod-lt j (zero-lt-suc 8))))
 
 none_of : (o : Bool) → ◌≡◌ {A = ℕ} (cond o 0 0) 0
 none_of true = refl

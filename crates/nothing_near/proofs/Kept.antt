@@ -6,7 +6,7 @@ use mathlib.Core.Bool.{Bool, true, false, cond}
 use mathlib.Core.List.{List, [], ◌∷◌}
 use Prim.Native.Nat.{ℕ, zero, suc, ◌+◌, ◌-◌, ◌*◌, ◌≤◌, ◌<◌, min}
 use native.Mathlib.Omega.{arith}
-use borrow.Author.Tests.{leb-false, lt-ltb, le-ltb, ltb_true, lt-leb}
+use borrow.Author.Tests.{leb-false, lt-ltb, le-ltb, ltb-true, lt-leb}
 use lib.Dec.{leb, ltb}
 use lib.ListN.{length, get_or, set, drop, length-set}
 use lib.Seq.{get_or-set_same, set-set, set-get_or}
@@ -65,7 +65,7 @@ module _ (at : List ℕ) (p : Place) (l : List Place) (g : Gathers at (p ∷ l))
       let s = step_of p in
       let here : below at (suc s) ≡ positions_of p + sum_where (step_below (suc s)) positions_of l = g (suc s) ∙ ap (λ (t : Bool). cond t (positions_of p) 0 + sum_where (step_below (suc s)) positions_of l) (lt-ltb s (suc s) (omega arith)) in
       let under : below at s ≡ 0 + sum_where (step_below s) positions_of l = g s ∙ ap (λ (t : Bool). cond t (positions_of p) 0 + sum_where (step_below s) positions_of l) (le-ltb s s (omega arith)) in
-      omega (arith, below_suc at s, where_more (step_below s) (step_below (suc s)) positions_of (λ q h. lt-ltb (step_of q) (suc s) (omega (arith, ltb_true (step_of q) s h))) l)
+      omega (arith, below_suc at s, where_more (step_below s) (step_below (suc s)) positions_of (λ q h. lt-ltb (step_of q) (suc s) (omega (arith, ltb-true (step_of q) s h))) l)
 
   without_first : step_of p < length at → Gathers (set at (step_of p) (get_or at (step_of p) 0 - positions_of p)) l
   unfolding sum_where

@@ -4,7 +4,7 @@ use mathlib.Core.Bool.{Bool, true, false, ◌&&◌, cond}
 use mathlib.Core.List.{List, [], ◌∷◌, ◌++◌}
 use Prim.Native.Nat.{ℕ, suc, ◌+◌, ◌≤◌, ◌<◌}
 use native.Mathlib.Omega.{arith}
-use borrow.Author.Tests.{lt-leb, le-ltb, ltb_false}
+use borrow.Author.Tests.{lt-leb, le-ltb, ltb-false}
 use lib.Dec.{leb}
 use lib.ListN.{get_or}
 use Rattle.cells.specs.Cells.{count_of, occupied_word}
@@ -55,7 +55,7 @@ module _ (grid : List ℕ) where
   pub silent_positions : Unheard grid → positions_among grid 1600 ≡ 0
   unfolding positions_among
   silent_positions u =
-      pass_all (λ (i s : ℕ). cond true (s + count_of (get_or grid i 0)) s) 0 1600 (λ i l s. omega (arith, ltb_false 0 (count_of (get_or grid i 0)) (u i l)))
+      pass_all (λ (i s : ℕ). cond true (s + count_of (get_or grid i 0)) s) 0 1600 (λ i l s. omega (arith, ltb-false 0 (count_of (get_or grid i 0)) (u i l)))
 
   silent : (n : ℕ) → positions_among grid n ≡ 0 → (i : ℕ) → i < n → count_of (get_or grid i 0) ≡ 0
   unfolding positions_among

@@ -5,7 +5,7 @@ use mathlib.Core.Bool.{Bool, true, false}
 use mathlib.Core.List.{List, [], ◌∷◌}
 use Prim.Native.Nat.{ℕ, suc, ◌-◌, ◌≤◌, ◌<◌, min}
 use native.Mathlib.Omega.{arith}
-use borrow.Author.Tests.{leb_true, leb-false, le-leb, lt-leb}
+use borrow.Author.Tests.{leb-true, leb-false, le-leb, lt-leb}
 use lib.Dec.{leb, ltb, leb-suc-suc}
 use lib.ListN.{length}
 use Rattle.view.specs.declared.Far.{Far}
@@ -24,7 +24,7 @@ some_place (p ∷ l) h = omega arith
 leb_same : (m n a b : ℕ) → (m ≤ n → a ≤ b) → (n < m → b < a) → leb m n ≡ leb a b
 leb_same m n a b f g = by (leb m n) refl where
   by : (t : Bool) → leb m n ≡ t → leb m n ≡ leb a b
-  by true e = e ∙ sym (le-leb a b (f (leb_true m n e)))
+  by true e = e ∙ sym (le-leb a b (f (leb-true m n e)))
   by false e = e ∙ sym (lt-leb a b (g (leb-false m n e)))
 
 -- it is under 60 km where three, or all of fewer, are

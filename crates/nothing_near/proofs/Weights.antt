@@ -6,7 +6,7 @@ use mathlib.Core.List.{List, [], ◌∷◌, ◌++◌}
 use Prim.Native.Nat.{ℕ, ◌+◌, ◌*◌, ◌≤◌, ◌<◌}
 use native.Mathlib.Nat.{zero-add}
 use native.Mathlib.Omega.{arith}
-use borrow.Author.Tests.{leb_true, leb-false, le-leb, lt-leb}
+use borrow.Author.Tests.{leb-true, leb-false, le-leb, lt-leb}
 use lib.Dec.{leb}
 use Rattle.near_field.specs.Sorted.{ascending}
 use Rattle.near_field.proofs.Sorted.{sum_where, sum_ascending, From, from_ascending, within, none_within}
@@ -52,7 +52,7 @@ module _ {A : Type 0} (key : A → ℕ) where
     step : (t u : Bool) (a : A) (rest passed n : ℕ) → leb sum (2 * (passed + w a)) ≡ t → leb (key a) d ≡ u → 2 * passed < sum → (u ≡ false → n ≡ 0)
         → (t ≡ false → leb rest d ≡ leb sum (2 * (passed + w a + n)))
         → leb (cond t (key a) rest) d ≡ leb sum (2 * (passed + (cond u (w a) 0 + n)))
-    step true true a rest passed n et eu lt z r = eu ∙ sym (le-leb sum (2 * (passed + (w a + n))) (omega (arith, leb_true sum (2 * (passed + w a)) et)))
+    step true true a rest passed n et eu lt z r = eu ∙ sym (le-leb sum (2 * (passed + (w a + n))) (omega (arith, leb-true sum (2 * (passed + w a)) et)))
     step true false a rest passed n et eu lt z r = eu ∙ sym (lt-leb sum (2 * (passed + (0 + n))) (omega (arith, z refl)))
     step false true a rest passed n et eu lt z r = let e : passed + w a + n ≡ passed + (w a + n) = omega arith in r refl ∙ ap (λ (m : ℕ). leb sum (2 * m)) e
     step false false a rest passed n et eu lt z r =

@@ -3,9 +3,9 @@ use mathlib.Core.Path.{◌≡◌, refl, sym, ap, ◌∙◌, subst}
 use mathlib.Core.Bool.{Bool, true, false, ◌&&◌, cond}
 use mathlib.Core.List.{List, [], ◌∷◌}
 use Prim.Native.Nat.{ℕ, zero, suc, ◌+◌, ◌-◌, ◌*◌, ◌/◌, ◌^◌, ◌≤◌, ◌<◌}
-use native.Mathlib.Nat.{le_of_lt, le-div_iff_mul-le, div-lt_iff_lt-mul, mul-le-mul_left, mul_one}
+use native.Mathlib.Nat.{le_of_lt, le-div_iff_mul-le, div-lt_iff_lt-mul, mul-le-mul_left, mul-one}
 use native.Mathlib.Omega.{arith}
-use borrow.Author.Tests.{lt-ltb, le-ltb, le-leb, lt-leb, leb_true}
+use borrow.Author.Tests.{lt-ltb, le-ltb, le-leb, lt-leb, leb-true}
 use lib.Dec.{T, ltb, leb}
 use lib.ListN.{length, get_or, drop, get_or-eq_default}
 use lib.Pow.{pow_pos}
@@ -24,7 +24,7 @@ unfolding value_on
 value_grows base n [] h = omega arith
 value_grows base n (c ∷ s) h =
     let m : n * 1 ≤ n * base = mul-le-mul_left n h in
-    let e : n * 1 ≡ n = mul_one n in
+    let e : n * 1 ≡ n = mul-one n in
     let r : n * base + digit_of c ≤ value_on base (n * base + digit_of c) s = value_grows base (n * base + digit_of c) s h in
     omega arith
 
@@ -83,7 +83,7 @@ pub within : (base most n k : ℕ) (s : List ℕ) → number_on base most n s �
 unfolding number_on
 within base most n k s e = by (ltb 0 (length s)) (all_digits base s) (leb (value_on base n s) most) refl e where
   by : (x y b : Bool) → leb (value_on base n s) most ≡ b → cond (x && (y && b)) (number.Is (value_on base n s)) number.Bad ≡ number.Is k → k ≤ most
-  by true true true l e = let v : value_on base n s ≡ k = cc in omega (arith, leb_true (value_on base n s) most l)
+  by true true true l e = let v : value_on base n s ≡ k = cc in omega (arith, leb-true (value_on base n s) most l)
   by true true false l e = let z : ◌≡◌ {A = ℕ} 0 1 = cc in omega arith
   by true false b l e = let z : ◌≡◌ {A = ℕ} 0 1 = cc in omega arith
   by false y b l e = let z : ◌≡◌ {A = ℕ} 0 1 = cc in omega arith

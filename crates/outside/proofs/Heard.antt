@@ -6,7 +6,7 @@ use mathlib.Core.List.{List}
 use Prim.Native.Nat.{ℕ, ◌+◌, ◌*◌, ◌/◌, ◌≤◌, ◌<◌}
 use native.Mathlib.Numerals.{add-one}
 use native.Mathlib.Omega.{arith}
-use borrow.Author.Tests.{lt-ltb, le-ltb, ltb_true, ltb_false, eq-eqb, ne_eqb, eqb_true, eqb_false}
+use borrow.Author.Tests.{lt-ltb, le-ltb, ltb-true, ltb-false, eq-eqb, ne_eqb, eqb-true, eqb-false}
 use lib.Bits.{bit_or}
 use lib.Dec.{ltb, eqb}
 use lib.IntN.{pos, ◌-ℤ◌}
@@ -71,14 +71,14 @@ module _ (f t : ℕ → Bool) where
       er ∙ rw em (mark_table (marked f t k) (marked f t (k + 1)) 8 k (t k) l (λ j. by j (eqb k j) refl)) where
         by : (j : ℕ) (b : Bool) → eqb k j ≡ b → marked f t (k + 1) j ≡ cond b (marked f t k j || t k) (marked f t k j)
         by j true e =
-            let q = eqb_true k j e in
+            let q = eqb-true k j e in
             rw (lt-ltb j (k + 1) (omega arith), le-ltb j k (omega arith), or_false (f j)) (ap (λ (i : ℕ). f j || t i) (sym q))
-        by j false e = ap (λ (b : Bool). f j || (b && t j)) (same_side j (eqb_false k j e)) where
+        by j false e = ap (λ (b : Bool). f j || (b && t j)) (same_side j (eqb-false k j e)) where
           same_side : (j : ℕ) → (k ≡ j → ⊥) → ltb j (k + 1) ≡ ltb j k
           same_side j d = side (ltb j k) refl where
             side : (b : Bool) → ltb j k ≡ b → ltb j (k + 1) ≡ ltb j k
-            side true h = lt-ltb j (k + 1) (omega (arith, ltb_true j k h)) ∙ sym h
-            side false h = le-ltb j (k + 1) (past j (ltb_false j k h) d) ∙ sym h where
+            side true h = lt-ltb j (k + 1) (omega (arith, ltb-true j k h)) ∙ sym h
+            side false h = le-ltb j (k + 1) (past j (ltb-false j k h) d) ∙ sym h where
               past : (j : ℕ) → k ≤ j → (k ≡ j → ⊥) → k + 1 ≤ j
               past j l d = omega arith
 

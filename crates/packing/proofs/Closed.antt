@@ -5,7 +5,7 @@ use native.Mathlib.Omega.{arith}
 use native.Mathlib.Nat.{mod-eq_of_lt}
 use mathlib.Core.Bool.{Bool, true, false, cond, not, ◌&&◌}
 use mathlib.Core.List.{List, [], ◌∷◌}
-use borrow.Author.Tests.{eqb_true, leb_true}
+use borrow.Author.Tests.{eqb-true, leb-true}
 use lib.Dec.{T, eqb, leb}
 use lib.ListN.{get_or}
 use lib.Ieee.{Float, nan, inf, fin, is_nan, binary64, of_bits, to_bits}
@@ -31,10 +31,10 @@ maybe_cases P most t m q h none some =
     by_bool (eqb t 0)
     (λ e.
     let z : eqb m 0 ≡ true = sym (ap (λ (b : Bool). cond b (eqb m 0) (eqb t 1 && leb m most)) e) ∙ h in
-    subst (λ (x : ℕ). P x m) (sym (eqb_true t 0 e)) (subst (P 0) (sym (eqb_true m 0 z)) none))
+    subst (λ (x : ℕ). P x m) (sym (eqb-true t 0 e)) (subst (P 0) (sym (eqb-true m 0 z)) none))
     (λ e.
     let b : (eqb t 1 && leb m most) ≡ true = sym (ap (λ (b : Bool). cond b (eqb m 0) (eqb t 1 && leb m most)) e) ∙ h in
-    subst (λ (x : ℕ). P x m) (sym (eqb_true t 1 (and_1 (eqb t 1) (leb m most) b))) (some (leb_true m most (and_2 (eqb t 1) (leb m most) b))))
+    subst (λ (x : ℕ). P x m) (sym (eqb-true t 1 (and_1 (eqb t 1) (leb m most) b))) (some (leb-true m most (and_2 (eqb t 1) (leb m most) b))))
 
 altitude_closed : (t m : ℕ) (q : List ℕ) → maybe_fits most32 (t ∷ m ∷ q) ≡ true → altitude_words (altitude_of (t ∷ m ∷ q)) ≡ t ∷ m ∷ []
 unfolding altitude_words altitude_of most32
@@ -52,7 +52,7 @@ by_closed t m q h = maybe_cases (λ t m. by_words (by_of (t ∷ m ∷ q)) ≡ t 
 
 -- NONE: zeros are all alike
 zero_at : (n : ℕ) (ws : List ℕ) → zeros (suc n) ws ≡ true → get_or ws n 0 ≡ 0
-zero_at n ws h = eqb_true (get_or ws n 0) 0 (and_2 (zeros n ws) (eqb (get_or ws n 0) 0) h)
+zero_at n ws h = eqb-true (get_or ws n 0) 0 (and_2 (zeros n ws) (eqb (get_or ws n 0) 0) h)
 
 fewer : (n : ℕ) (ws : List ℕ) → zeros (suc n) ws ≡ true → zeros n ws ≡ true
 fewer n ws h = and_1 (zeros n ws) (eqb (get_or ws n 0) 0) h
@@ -66,7 +66,7 @@ not_nan d (fin s m e) h = tt
 
 bits_closed : (d w : ℕ) → leb w most64 ≡ true → within d (of_bits binary64 w) ≡ true → to_bits binary64 (of_bits binary64 w) ≡ w
 unfolding most64
-bits_closed d w h g = to_bits-of_bits binary64 w (let l : w ≤ 18446744073709551615 = leb_true w 18446744073709551615 h in subst (λ (n : ℕ). w < n) (sym (top-pow binary64)) (omega (arith, l))) (not_nan d (of_bits binary64 w) g)
+bits_closed d w h g = to_bits-of_bits binary64 w (let l : w ≤ 18446744073709551615 = leb-true w 18446744073709551615 h in subst (λ (n : ℕ). w < n) (sym (top-pow binary64)) (omega (arith, l))) (not_nan d (of_bits binary64 w) g)
 
 module _ (t a b u m : ℕ) (q : List ℕ) where
   abbrev site5 : List ℕ
@@ -89,7 +89,7 @@ module _ (t a b u m : ℕ) (q : List ℕ) where
       none e =
           let z4 : zeros 4 l ≡ true = sym (ap (λ (x : Bool). cond x (zeros 4 l) (eqb t 1 && (degrees && maybe_fits most32 (u ∷ m ∷ q)))) e) ∙ h in
           let z3 = fewer 3 l z4 in let z2 = fewer 2 l z3 in let z1 = fewer 1 l z2 in
-          simp (eqb_true t 0 e, zero_at 0 l z1, zero_at 1 l z2, zero_at 2 l z3, zero_at 3 l z4)
+          simp (eqb-true t 0 e, zero_at 0 l z1, zero_at 1 l z2, zero_at 2 l z3, zero_at 3 l z4)
 
       some : eqb t 0 ≡ false → site_words (site_of site5) ≡ t ∷ a ∷ b ∷ u ∷ m ∷ []
       some e =
@@ -100,22 +100,22 @@ module _ (t a b u m : ℕ) (q : List ℕ) where
           let lat = bits_closed 90 a (and_1 (leb a most64) (leb b most64) wide) (and_1 (within 90 place.lat) (within 180 place.lon) in-degrees) in
           let lon = bits_closed 180 b (and_2 (leb a most64) (leb b most64) wide) (and_2 (within 90 place.lat) (within 180 place.lon) in-degrees) in
           ap (λ (x : Bool). site_words (cond x Nowhere (At place))) e
-          ∙ simp (lat, lon, altitude_closed u m q (and_2 degrees (maybe_fits most32 (u ∷ m ∷ q)) rest), eqb_true t 1 (and_1 (eqb t 1) (degrees && maybe_fits most32 (u ∷ m ∷ q)) f))
+          ∙ simp (lat, lon, altitude_closed u m q (and_2 degrees (maybe_fits most32 (u ∷ m ∷ q)) rest), eqb-true t 1 (and_1 (eqb t 1) (degrees && maybe_fits most32 (u ∷ m ∷ q)) f))
 
 -- VERDICT
 last_closed : (w : ℕ) → leb w 2 ≡ true → last_word (last_of w) ≡ w
 last_closed zero h = refl
 last_closed (suc zero) h = refl
 last_closed (suc (suc zero)) h = refl
-last_closed (suc (suc (suc w))) h = absurd (omega (arith, leb_true (suc (suc (suc w))) 2 h))
+last_closed (suc (suc (suc w))) h = absurd (omega (arith, leb-true (suc (suc (suc w))) 2 h))
 
 moved_closed : (w : ℕ) → leb w 1 ≡ true → cond {A = ℕ} (not (eqb w 0)) 1 0 ≡ w
 moved_closed zero h = refl
 moved_closed (suc zero) h = refl
-moved_closed (suc (suc w)) h = absurd (omega (arith, leb_true (suc (suc w)) 1 h))
+moved_closed (suc (suc w)) h = absurd (omega (arith, leb-true (suc (suc w)) 1 h))
 
 byte_closed : (w : ℕ) → leb w 255 ≡ true → w % 256 ≡ w
-byte_closed w h = mod-eq_of_lt (let l : w ≤ 255 = leb_true w 255 h in omega (arith, l))
+byte_closed w h = mod-eq_of_lt (let l : w ≤ 255 = leb-true w 255 h in omega (arith, l))
 
 module _ (t a b c u d v : ℕ) (q : List ℕ) where
   abbrev run7 : List ℕ
@@ -138,7 +138,7 @@ module _ (t a b c u d v : ℕ) (q : List ℕ) where
       none e =
           let z6 : zeros 6 l ≡ true = sym (ap (λ (x : Bool). cond x (zeros 6 l) (eqb t 1 && (counts && (far && leb v 1)))) e) ∙ h in
           let z5 = fewer 5 l z6 in let z4 = fewer 4 l z5 in let z3 = fewer 3 l z4 in let z2 = fewer 2 l z3 in let z1 = fewer 1 l z2 in
-          simp (eqb_true t 0 e, zero_at 0 l z1, zero_at 1 l z2, zero_at 2 l z3, zero_at 3 l z4, zero_at 4 l z5, zero_at 5 l z6)
+          simp (eqb-true t 0 e, zero_at 0 l z1, zero_at 1 l z2, zero_at 2 l z3, zero_at 3 l z4, zero_at 4 l z5, zero_at 5 l z6)
 
       some : eqb t 0 ≡ false → verdict_words (verdict_of run7) ≡ t ∷ a ∷ b ∷ c ∷ u ∷ d ∷ v ∷ []
       some e =
@@ -148,7 +148,7 @@ module _ (t a b c u d v : ℕ) (q : List ℕ) where
           let bytes = and_2 (leb a 2) (leb b 255 && leb c 255) low in
           let ends = and_2 counts (far && leb v 1) rest in
           ap (λ (x : Bool). verdict_words (cond x Never (With (run_of run7)))) e
-          ∙ simp (last_closed a (and_1 (leb a 2) (leb b 255 && leb c 255) low), byte_closed b (and_1 (leb b 255) (leb c 255) bytes), byte_closed c (and_2 (leb b 255) (leb c 255) bytes), by_closed u d (v ∷ q) (and_1 far (leb v 1) ends), moved_closed v (and_2 far (leb v 1) ends), eqb_true t 1 (and_1 (eqb t 1) (counts && (far && leb v 1)) f))
+          ∙ simp (last_closed a (and_1 (leb a 2) (leb b 255 && leb c 255) low), byte_closed b (and_1 (leb b 255) (leb c 255) bytes), byte_closed c (and_2 (leb b 255) (leb c 255) bytes), by_closed u d (v ∷ q) (and_1 far (leb v 1) ends), moved_closed v (and_2 far (leb v 1) ends), eqb-true t 1 (and_1 (eqb t 1) (counts && (far && leb v 1)) f))
 
 -- KEY
 pub key_closed : (a b c d : ℕ) (q : List ℕ) → (wide2 (a ∷ b ∷ c ∷ d ∷ q) && wide2 (c ∷ d ∷ q)) ≡ true → key_words (key_of (a ∷ b ∷ c ∷ d ∷ q)) ≡ a ∷ b ∷ c ∷ d ∷ []
@@ -156,4 +156,4 @@ unfolding key_words key_of bytes_of
 key_closed a b c d q h =
     let x = and_1 (wide2 (a ∷ b ∷ c ∷ d ∷ q)) (wide2 (c ∷ d ∷ q)) h in
     let y = and_2 (wide2 (a ∷ b ∷ c ∷ d ∷ q)) (wide2 (c ∷ d ∷ q)) h in
-    simp (word_back a (leb_true a most64 (and_1 (leb a most64) (leb b most64) x)), word_back b (leb_true b most64 (and_2 (leb a most64) (leb b most64) x)), word_back c (leb_true c most64 (and_1 (leb c most64) (leb d most64) y)), word_back d (leb_true d most64 (and_2 (leb c most64) (leb d most64) y)))
+    simp (word_back a (leb-true a most64 (and_1 (leb a most64) (leb b most64) x)), word_back b (leb-true b most64 (and_2 (leb a most64) (leb b most64) x)), word_back c (leb-true c most64 (and_1 (leb c most64) (leb d most64) y)), word_back d (leb-true d most64 (and_2 (leb c most64) (leb d most64) y)))

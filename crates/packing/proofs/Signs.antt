@@ -3,7 +3,7 @@ use mathlib.Core.Path.{◌≡◌, refl, sym, ap, ◌∙◌, subst}
 use Prim.Native.Nat.{ℕ, zero, suc, ◌-◌, ◌≤◌}
 use native.Mathlib.Omega.{arith}
 use mathlib.Core.Bool.{Bool, true, false, cond, true≢false}
-use borrow.Author.Tests.{le-ltb, ltb_true}
+use borrow.Author.Tests.{le-ltb, ltb-true}
 use lib.Dec.{T}
 use lib.IntN.{ℤ, pos, negsuc, nat_abs, ◌-ℤ◌}
 use lib.Signed.{lt_z, non_neg, mag}
@@ -14,11 +14,11 @@ use Rattle.packing.specs.Words.{low32}
 
 -- m below zero
 size_of : (m : ℤ) → lt_z m (pos 0) ≡ true → negsuc 0 -ℤ m ≡ pos (mag m)
-size_of (pos n) h = absurd (omega (arith, ltb_true n 0 h))
+size_of (pos n) h = absurd (omega (arith, ltb-true n 0 h))
 size_of (negsuc n) h = ap (λ (b : Bool). cond b (negsuc (1 - suc (suc n))) (pos (suc n - 1))) (le-ltb (suc n) 1 (omega arith)) ∙ ap pos (omega arith)
 
 bits_of : (m : ℤ) → lt_z m (pos 0) ≡ true → 4294967295 - mag m ≡ of_z w32 m
-bits_of (pos n) h = absurd (omega (arith, ltb_true n 0 h))
+bits_of (pos n) h = absurd (omega (arith, ltb-true n 0 h))
 bits_of (negsuc n) h = omega arith
 
 plain : (m : ℤ) → lt_z m (pos 0) ≡ false → m ≡ pos (mag m)

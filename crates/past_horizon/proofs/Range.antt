@@ -6,7 +6,7 @@ use mathlib.Core.List.{List, [], ◌∷◌}
 use Prim.Native.Nat.{ℕ, zero, suc, ◌/◌, ◌%◌, ◌≤◌, ◌<◌}
 use native.Mathlib.Nat.{not-suc-le-zero, le_of_suc-le-suc, mod-lt, zero-lt-suc}
 use native.Mathlib.Omega.{arith}
-use borrow.Author.Tests.{leb_true}
+use borrow.Author.Tests.{leb-true}
 use lib.Dec.{T}
 use lib.Ieee.{Float, nan, inf, fin, binary64, fits, lt, sub, of_int, round}
 use lib.Ieee.Fits.{sub-fits}
@@ -122,7 +122,7 @@ past_distance site far km h =
     let l = excesses far.cells (antenna site) 72 in
     let m = middle_is _ _ (middle l) km h in
     subst (λ (x : Float). T (distance x)) m.1
-    (at_held (sorted l) (length l / 2) (below (length (sorted l)) (length l) (sorted_length l) (leb_true 3 (length l) m.0)) (sorted_held l (excesses_held far.cells (antenna site) 72))).near
+    (at_held (sorted l) (length l / 2) (below (length (sorted l)) (length l) (sorted_length l) (leb-true 3 (length l) m.0)) (sorted_held l (excesses_held far.cells (antenna site) 72))).near
 
 -- ---- sorted, they ascend
 plain_of : (x : Float) → T (distance x) → T (plain x)

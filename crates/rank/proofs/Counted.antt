@@ -7,7 +7,7 @@ use Prim.Native.Nat.{ℕ, zero, suc, ◌+◌, ◌≤◌, ◌<◌}
 use native.Mathlib.Nat.{not-suc-le-zero, le_of_suc-le-suc, le_trans, le_of_eq, le_of_lt, lt_of_lt_of_le}
 use native.Mathlib.Numerals.{add-one}
 use native.Mathlib.Omega.{arith}
-use borrow.Author.Tests.{le-ltb, ltb_true, ltb_false, eq-eqb, eqb_true}
+use borrow.Author.Tests.{le-ltb, ltb-true, ltb-false, eq-eqb, eqb-true}
 use lib.Dec.{T, ltb, eqb}
 use lib.Ieee.{Float, nan, inf, fin, binary64, of_bits, fits, div, lt}
 use lib.ListN.{length, get_or, drop}
@@ -62,7 +62,7 @@ abbrev pub below : Float → List Float → ℕ
 below x l = count (λ (y : Float). lt y x) l
 
 less : (x y : Float) → Good x → Good y → lt x y ≡ true → units_of x < units_of y
-less x y g h e = ltb_true (units_of x) (units_of y) (sym (lt_units x y g.0 g.1 h.0 h.1) ∙ e)
+less x y g h e = ltb-true (units_of x) (units_of y) (sym (lt_units x y g.0 g.1 h.0 h.1) ∙ e)
 
 not_less : (x y : Float) → Good x → Good y → units_of y ≤ units_of x → lt x y ≡ false
 not_less x y g h u = lt_units x y g.0 g.1 h.0 h.1 ∙ le-ltb (units_of x) (units_of y) u
@@ -124,9 +124,9 @@ module _ (l : List Float) (k : ℕ) (a : AllGood l) (h : k < length l) where
   beyond x g b = by (ltb (units_of (ranked l k)) (units_of x)) refl
     where
       by : (t : Bool) → ltb (units_of (ranked l k)) (units_of x) ≡ t → units_of (ranked l k) < units_of x
-      by true e = ltb_true (units_of (ranked l k)) (units_of x) e
+      by true e = ltb-true (units_of (ranked l k)) (units_of x) e
       by false e =
-          absurd (omega (arith, few_below x (sorted l) k g (sorted_good l a) (sorted_ascending l a) inside (ltb_false (units_of (ranked l k)) (units_of x) e), sorted_count (λ (y : Float). lt y x) l, b))
+          absurd (omega (arith, few_below x (sorted l) k g (sorted_good l a) (sorted_ascending l a) inside (ltb-false (units_of (ranked l k)) (units_of x) e), sorted_count (λ (y : Float). lt y x) l, b))
 
   -- it is one of the list
   there : Found (λ (y : Float). eqb (units_of y) (units_of (ranked l k))) l
@@ -143,9 +143,9 @@ module _ (l : List Float) (k : ℕ) (a : AllGood l) (h : k < length l) where
     one_more_lem low' u here j q r = by (ltb j i) refl
       where
         by : (t : Bool) → ltb j i ≡ t → units_of (get_or l j nan) ≤ units_of low'
-        by true e = le_trans (s.passed j (ltb_true j i e) r) u
+        by true e = le_trans (s.passed j (ltb-true j i e) r) u
         by false e =
-            let n : i ≡ j = omega (arith, ltb_false j i e) in
+            let n : i ≡ j = omega (arith, ltb-false j i e) in
             subst (λ (m : ℕ). units_of (get_or l m nan) ≤ units_of (ranked l k) → units_of (get_or l m nan) ≤ units_of low') n here r
 
     pub not_above : lt low x ≡ false → Between l k (i + 1) low high
@@ -174,7 +174,7 @@ module _ (l : List Float) (k : ℕ) (a : AllGood l) (h : k < length l) where
   pub ended : (i : ℕ) (low high : Float) → Between l k i low high → length l ≤ i → low ≡ ranked l k
   ended i low high s e =
       let t = there in
-      let n : units_of (get_or l t.at nan) ≡ units_of (ranked l k) = eqb_true _ _ t.passes in
+      let n : units_of (get_or l t.at nan) ≡ units_of (ranked l k) = eqb-true _ _ t.passes in
       let up : units_of (get_or l t.at nan) ≤ units_of low = s.passed t.at (omega (arith, t.inside)) (le_of_eq n) in
       by_units low (ranked l k) s.good.0 s.good.1 ranked_good.0 ranked_good.1 (omega (arith, s.from))
 

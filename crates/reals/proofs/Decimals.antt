@@ -1,5 +1,5 @@
 -- Floats by their bits and as decimals: a quotient of two whole numbers that are floats exactly is the nearest float to the fraction.
-use Rattle.std.proofs.Common.{◌≡◌, ℕ, zero, suc, ◌+◌, ◌-◌, ◌*◌, ◌%◌, ◌^◌, ◌<◌, ◌≤◌, Bool, true, false, cond, not, T, ltb, List, [], length, take, drop, pos, sym, refl, ap, ◌∙◌, subst, mul_assoc, mul_comm, mul-pos, zero-mul, mul_one, arith, drop_of_length-le, le-ltb, lt-ltb, ne_eqb, le-leb}
+use Rattle.std.proofs.Common.{◌≡◌, ℕ, zero, suc, ◌+◌, ◌-◌, ◌*◌, ◌%◌, ◌^◌, ◌<◌, ◌≤◌, Bool, true, false, cond, not, T, ltb, List, [], length, take, drop, pos, sym, refl, ap, ◌∙◌, subst, mul_assoc, mul_comm, mul-pos, zero-mul, mul-one, arith, drop_of_length-le, le-ltb, lt-ltb, ne_eqb, le-leb}
 use native.Mathlib.Nat.{pow-le-pow_right}
 use borrow.Author.Tests.{lt-leb}
 use lib.Ieee.{Float, nan, inf, fin, Format, binary64, low, emax, prec, up, down, odd, units, round, neg, div, of_int, of_bits, is_nan, nan_bits}
@@ -19,8 +19,8 @@ use lib.Ieee.Fits.{round_is, down_pos}
 module _ (X Y E D a b : ℕ) (x : X * 1 ≡ a * E) (y : Y * 1 ≡ b * D) where
   cross : X * D * b ≡ a * (Y * E)
   cross =
-      let x' : X ≡ a * E = sym (mul_one X) ∙ x in
-      let y' : Y ≡ b * D = sym (mul_one Y) ∙ y in
+      let x' : X ≡ a * E = sym (mul-one X) ∙ x in
+      let y' : Y ≡ b * D = sym (mul-one Y) ∙ y in
       rw (x', y') (mul_assoc (a * E) D b ∙ mul_assoc a E (D * b) ∙ ap (λ (z : ℕ). a * z) (mul_comm E (D * b) ∙ ap (λ (z : ℕ). z * E) (mul_comm D b)))
 
 over_value : (x y : Float) (a b : ℕ) → 0 < b → HasValue x false a 1 → HasValue y false b 1 → div binary64 x y ≡ round binary64 false a b
@@ -34,7 +34,7 @@ over_value (fin false m e) (fin true n d) a b p h k = absurd (subst T k.0 tt)
 over_value (fin false m e) (fin false n d) a b p h k =
     let D = down d in
     let E = down e in
-    let Y : 0 < n * up d = subst (λ (z : ℕ). 0 < z) (sym (sym (mul_one (n * up d)) ∙ k.1)) (mul-pos p (down_pos d)) in
+    let Y : 0 < n * up d = subst (λ (z : ℕ). 0 < z) (sym (sym (mul-one (n * up d)) ∙ k.1)) (mul-pos p (down_pos d)) in
     let z : n ≡ 0 → ⊥ = λ q. not_zero (up d) (subst (λ (i : ℕ). 0 < i * up d) q Y) in
     rw (ne_eqb n 0 z)
     (round_same binary64 false (m * up e * D) (n * up d * E) a b (mul-pos Y (down_pos e)) p (cross (m * up e) (n * up d) E D a b h.1 k.1))

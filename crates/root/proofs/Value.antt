@@ -1,5 +1,5 @@
 -- The float that is read from a bit pattern, and its root. Assumes nothing.
-use Rattle.std.proofs.Common.{◌≡◌, ℕ, zero, suc, ◌+◌, ◌*◌, ◌/◌, ◌%◌, ◌^◌, ◌<◌, ◌≤◌, Bool, true, false, cond, not, T, eqb, ltb, leb, sym, refl, ap, ◌∙◌, subst, lt_irrefl, mod-eq_of_lt, zero-lt-suc, add_comm, mul-pos, zero-mul, mul_one, mul-div_cancel, arith, eqb→eq, ltb→lt, leb→le, pow_pos}
+use Rattle.std.proofs.Common.{◌≡◌, ℕ, zero, suc, ◌+◌, ◌*◌, ◌/◌, ◌%◌, ◌^◌, ◌<◌, ◌≤◌, Bool, true, false, cond, not, T, eqb, ltb, leb, sym, refl, ap, ◌∙◌, subst, lt_irrefl, mod-eq_of_lt, zero-lt-suc, add_comm, mul-pos, zero-mul, mul-one, mul-div_cancel, arith, eqb→eq, ltb→lt, leb→le, pow_pos}
 use lib.Dec.{nleb→lt, not_T, eqb-suc-zero}
 use lib.Ieee.{Float, nan, inf, fin, binary64, up, down, odd, fits, is_nan, of_fields, to_bits, of_bits, nan_bits, lt, eq}
 use lib.Ieee.Fits.{down_pos}
@@ -105,7 +105,7 @@ module _ (x : Float) (b : ℕ) (a : Above x b) where
 
   pub subnormal : lt plus_zero x ≡ true → b / 2 ^ 52 ≡ 0 → root x ≡ root_units (b % 2 ^ 52)
   subnormal h q =
-      root_value x (b % 2 ^ 52) (subst (λ (n : ℕ). HasValue x false n (2 ^ 1074)) (mul_one (b % 2 ^ 52)) (subst (λ (v : Float). HasValue v false (b % 2 ^ 52 * 2 ^ 0) (2 ^ 1074)) (sym (read_at 0 q)) (low_at (b % 2 ^ 52))))
+      root_value x (b % 2 ^ 52) (subst (λ (n : ℕ). HasValue x false n (2 ^ 1074)) (mul-one (b % 2 ^ 52)) (subst (λ (v : Float). HasValue v false (b % 2 ^ 52 * 2 ^ 0) (2 ^ 1074)) (sym (read_at 0 q)) (low_at (b % 2 ^ 52))))
       (subnormal_pos h q)
 
   pub infinite : lt plus_zero x ≡ true → b / 2 ^ 52 ≡ 2047 → root x ≡ x

@@ -1,5 +1,5 @@
 -- `isqrt` is the whole part of the square root, and the only number that is. Powers of two. Assumes nothing.
-use Rattle.std.proofs.Common.{◌≡◌, ℕ, zero, suc, ◌+◌, ◌*◌, ◌^◌, ◌<◌, ◌≤◌, Bool, true, false, cond, T, leb, sym, refl, ap, ◌∙◌, le_trans, le_of_eq, lt_of_lt_of_le, le_of_suc-le-suc, lt_of_le_of_lt, lt_irrefl, mul-le-mul_right, mul_comm, le_antisymm, mul-le-mul_left, lt_of_not-le, mul_one, arith, leb→le, pow_mono, pow-add, shl_lt}
+use Rattle.std.proofs.Common.{◌≡◌, ℕ, zero, suc, ◌+◌, ◌*◌, ◌^◌, ◌<◌, ◌≤◌, Bool, true, false, cond, T, leb, sym, refl, ap, ◌∙◌, le_trans, le_of_eq, lt_of_lt_of_le, le_of_suc-le-suc, lt_of_le_of_lt, lt_irrefl, mul-le-mul_right, mul_comm, le_antisymm, mul-le-mul_left, lt_of_not-le, mul-one, arith, leb→le, pow_mono, pow-add, shl_lt}
 use native.Mathlib.Nat.{pow-succ'}
 use lib.Dec.{nleb→lt}
 use lib.Ieee.{size}
@@ -53,7 +53,7 @@ twice_at_most n b h l = lt_of_le_of_lt (mul-le-mul_left n (at_most b l)) (below 
     below n h = omega arith
 
 pub once_at_least : (n b : ℕ) → 2 ^ 52 ≤ n → 2 ^ 52 ≤ n * (b + 1)
-once_at_least n b h = le_trans h (le_trans (le_of_eq (sym (mul_one n))) (mul-le-mul_left n (some b)))
+once_at_least n b h = le_trans h (le_trans (le_of_eq (sym (mul-one n))) (mul-le-mul_left n (some b)))
   where
     some : (b : ℕ) → 1 ≤ b + 1
     some b = omega arith

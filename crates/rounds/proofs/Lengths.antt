@@ -4,7 +4,7 @@ use mathlib.Core.Bool.{Bool, true, false, cond, ◌&&◌}
 use mathlib.Core.List.{List, [], ◌∷◌}
 use Prim.Native.Nat.{ℕ, zero, suc, ◌+◌, ◌*◌, ◌≤◌}
 use native.Mathlib.Omega.{arith}
-use borrow.Author.Tests.{leb_true}
+use borrow.Author.Tests.{leb-true}
 use lib.Dec.{T, leb}
 use lib.ListN.{length, drop, replicate, length-append, length-replicate}
 use Rattle.fields.specs.Text.{spell}
@@ -64,7 +64,7 @@ refused_length_in q n list = omega (arith, length-append (decimal_text q) (spell
 -- 8 is not asked in vain: no more rows are named than the list holds keys
 room_for : (C k : ℕ) (list : List ℕ) → question8 C k list ≡ true → k ≤ holds list
 unfolding question8
-room_for C k list h = leb_true k (holds list) (last ((leb 1 k && leb k C)) (leb k (holds list)) h) where
+room_for C k list h = leb-true k (holds list) (last ((leb 1 k && leb k C)) (leb k (holds list)) h) where
   last : (a b : Bool) → (a && b) ≡ true → b ≡ true
   last true b e = e
   last false b e = absurd (subst T (sym e) tt)

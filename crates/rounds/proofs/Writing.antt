@@ -7,7 +7,7 @@ use lib.Dec.{ltb}
 use mathlib.Core.List.{List, [], ◌∷◌, append_assoc}
 use lib.ListN.{length, get_or, take, drop, replicate, length-replicate, get_or-eq_default}
 use lib.Seq.{get_or-drop, length-take-le}
-use borrow.Author.Tests.{lt-ltb, le-ltb, ltb_true}
+use borrow.Author.Tests.{lt-ltb, le-ltb, ltb-true}
 use Rattle.fields.specs.Text.{spell}
 use Rattle.table.specs.Rows.{Watch}
 use Rattle.table.proofs.Tests.{by_bool}
@@ -110,7 +110,7 @@ turned_put out out1 list n r t u e w = rw e w
 
 -- THE LINE
 pub served_few : (room : ℕ) → served room ≤ 64
-served_few room = by_bool (ltb room 64) (λ p. rw p (omega (arith, ltb_true room 64 p))) (λ p. rw p (omega arith))
+served_few room = by_bool (ltb room 64) (λ p. rw p (omega (arith, ltb-true room 64 p))) (λ p. rw p (omega arith))
 
 zeros : (m n : ℕ) → m ≤ n → take {A = ℕ} m (replicate n 0) ≡ replicate m 0
 zeros zero n h = refl

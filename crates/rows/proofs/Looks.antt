@@ -10,7 +10,7 @@ use mathlib.Core.Option.{Option, none, some}
 use mathlib.Core.List.{List, [], ◌∷◌, map}
 use lib.Dec.{eqb, ltb, leb}
 use lib.ListN.{length, get_or}
-use borrow.Author.Tests.{ltb_true, lt-ltb, leb_true}
+use borrow.Author.Tests.{ltb-true, lt-ltb, leb-true}
 use Rattle.table.specs.Machine.{same}
 use Rattle.table.specs.Rows as W
 use Rattle.table.specs.Rows.{NONE, Watch, Form, row_at}
@@ -76,7 +76,7 @@ module _ (xs : List Row) (small : length xs ≤ NONE) where
   lost (suc j) at p l b s v k = refl
 
   is_row : (at : ℕ) → ltb at (length xs) ≡ true → eqb at NONE ≡ false
-  is_row at t = eqb_no at NONE (below_none (ltb_true at (length xs) t) small)
+  is_row at t = eqb_no at NONE (below_none (ltb-true at (length xs) t) small)
 
   within : (at : ℕ) (t : Bool) → ltb at (length xs) ≡ t → ltb at (length rows) ≡ t
   within at t e = ap (λ (n : ℕ). ltb at n) (rows_long_lem xs) ∙ e
@@ -141,7 +141,7 @@ module _ (xs : List Row) (small : length xs ≤ NONE) where
       (λ t. ap (λ (x : Cursor). x.sound) (stays j at p b true v key t))
     where
       here : ltb at (length xs) ≡ true → fits (row at).part ≡ true
-      here t = ap (λ (r : W.Row Part). fits r.part) (sym (row_is_lem xs at)) ∙ a at (ltb_true at (length rows) (within at true t))
+      here t = ap (λ (r : W.Row Part). fits r.part) (sym (row_is_lem xs at)) ∙ a at (ltb-true at (length rows) (within at true t))
 
   -- what a scan has seen to fail stays seen
   sound_once : (k at p : ℕ) (b s : Bool) (v : ℕ) (key : List ℕ) → (scan_for k xs (state at p k b true s v key)).sound ≡ true → s ≡ true
@@ -267,7 +267,7 @@ pub looks : (xs : List Row) (m : ℕ) (e : Ends) (k : Key) (t : Bool) (a b : Cur
 unfolding question1 scanned
 looks xs m e k t a b r es y ea eb er ys l =
     let s : sizes_of (length xs) m ≡ true = sym es ∙ y in
-    let n : length xs ≤ most = leb_true (length xs) most (and_1 (leb (length xs) most) (eqb m (width * length xs)) (and_2 (leb 1 (length xs)) (leb (length xs) most && eqb m (width * length xs)) s)) in
+    let n : length xs ≤ most = leb-true (length xs) most (and_1 (leb (length xs) most) (eqb m (width * length xs)) (and_2 (leb 1 (length xs)) (leb (length xs) most && eqb m (width * length xs)) s)) in
     let small : length xs ≤ NONE = omega (arith, n, most_none) in
     let one : question1 form (watch_of xs ys e) ≡ true = rw (rows_long_lem xs, l) s in
     er ∙ ap₂ {C = Look} (λ x y. look_of (length xs) e.tail x y) ea eb

@@ -6,7 +6,7 @@ use mathlib.Core.Bool.{cond}
 use mathlib.Core.List.{List, [], ◌∷◌, map, ◌++◌, append_assoc}
 use lib.Dec.{eqb, ltb}
 use lib.ListN.{length, set, length-append}
-use borrow.Author.Tests.{ltb_false}
+use borrow.Author.Tests.{ltb-false}
 use Rattle.walks.proofs.Fill.{filled}
 use Rattle.table.specs.Rows as W
 use Rattle.table.specs.Rows.{NONE, unmade_row}
@@ -40,7 +40,7 @@ link_is C i h k =
     let s : i + 1 ≡ suc i = omega arith in
     by_bool (ltb i 4095)
     (λ p. rw p (ap (λ (m : ℕ). cond (eqb m C) NONE m) s))
-    (λ p. rw (p, eqb_yes (suc i) C (omega (arith, ltb_false i 4095 p, h, k))))
+    (λ p. rw (p, eqb_yes (suc i) C (omega (arith, ltb-false i 4095 p, h, k))))
 
 pub rows_are : (C i k : ℕ) → i + k ≡ C → C ≤ 4096 → map row_is (fresh_from C i k) ≡ fresh_rows unmade_part C i k
 rows_are C i zero e h = refl

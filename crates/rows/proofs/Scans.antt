@@ -8,7 +8,7 @@ use mathlib.Core.Bool.{Bool, true, false, cond}
 use mathlib.Core.List.{List}
 use lib.Dec.{ltb, eqb}
 use lib.ListN.{length, get_or}
-use borrow.Author.Tests.{ltb_true, eqb_false}
+use borrow.Author.Tests.{ltb-true, eqb-false}
 use Rattle.table.proofs.Tests.{clash}
 use Rattle.rows.specs.declared.Row.{Row}
 use Rattle.scans.specs.declared.Cursor.{Cursor}
@@ -35,7 +35,7 @@ module _ (ys : List Row) (c : Cursor) where
 
   one : (k : ℕ) → c.left ≡ k → eqb c.left 0 ≡ false → more_of c (length ys) ≡ true → scan_for k ys c ≡ scan_for next.left ys next
   unfolding scan_for
-  one zero e n m = absurd (eqb_false c.left 0 n e)
+  one zero e n m = absurd (eqb-false c.left 0 n e)
   one (suc j) e n m =
       let l : next.left ≡ j = step_left c (get_or ys c.at blank) n ∙ omega (arith, e) in
       ap (λ (t : Bool). cond t (scan_for j ys next) c) m ∙ ap (λ (i : ℕ). scan_for i ys next) (sym l)
@@ -45,7 +45,7 @@ module _ (ys : List Row) (c : Cursor) where
   goes_on_lem m =
       let p = picks c.fits (eqb c.left 0) (ltb c.at (length ys)) m in
       let l : next.left ≡ c.left - 1 = step_left c (get_or ys c.at blank) p.1 in
-      record { within = ltb_true c.at (length ys) p.2; same = one c.left refl p.1 m; less = omega (arith, l, eqb_false c.left 0 p.1) }
+      record { within = ltb-true c.at (length ys) p.2; same = one c.left refl p.1 m; less = omega (arith, l, eqb-false c.left 0 p.1) }
 
   done_for : (k : ℕ) → more_of c (length ys) ≡ false → scan_for k ys c ≡ c
   unfolding scan_for

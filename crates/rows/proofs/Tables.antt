@@ -5,7 +5,7 @@ use mathlib.Core.Bool.{true, false, not}
 use mathlib.Core.List.{List}
 use lib.Dec.{eqb}
 use lib.ListN.{length, get_or, set, get_or-eq_default}
-use borrow.Author.Tests.{not_true, not-false}
+use borrow.Author.Tests.{not-true, not-false}
 use lib.Seq.{set_out}
 use Rattle.table.specs.Rows.{NONE}
 use Rattle.rows.specs.declared.Row.{Row}
@@ -27,7 +27,7 @@ pub put_out : (xs : List Row) (at i : ℕ) (x : Row) → i ≡ at → length xs 
 put_out xs at i x e h = sym (set_out xs at x (subst (λ (j : ℕ). length xs ≤ j) e h))
 
 pub room_no : (xs : List Row) (e r : Ends) → not (eqb e.free NONE) ≡ true → r ≡ e → (r ≡ room_ends xs e) × (xs ≡ room_rows xs e)
-room_no xs e r t q = let f = not_true (eqb e.free NONE) t in (rw f q, rw f)
+room_no xs e r t q = let f = not-true (eqb e.free NONE) t in (rw f q, rw f)
 
 pub room_yes : (xs : List Row) (e : Ends) (i : ℕ) (r : Ends) (zs : List Row) → not (eqb e.free NONE) ≡ false → i ≡ e.head → (r ≡ released_ends xs e i) × (zs ≡ released_rows xs e i) → (r ≡ room_ends xs e) × (zs ≡ room_rows xs e)
 room_yes xs e i r zs t q s =

@@ -7,7 +7,7 @@ use mathlib.Core.Bool.{Bool, true, false, cond, not, ◌&&◌, ◌||◌}
 use mathlib.Core.List.{List, [], ◌∷◌}
 use lib.Dec.{ltb, eqb}
 use lib.ListN.{length, get_or, drop}
-use borrow.Author.Tests.{eqb_true, eqb_false, eq-eqb, ne_eqb}
+use borrow.Author.Tests.{eqb-true, eqb-false, eq-eqb, ne_eqb}
 use Rattle.table.specs.Machine.{same}
 use Rattle.table.specs.Rows.{NONE}
 use Rattle.scans.specs.Ends.{out_ends, linked_ends, fresh_ends}
@@ -103,8 +103,8 @@ eqb_same : (a b c d : ℕ) → (a ≡ b → c ≡ d) → (c ≡ d → a ≡ b) �
 eqb_same a b c d f g = go (eqb c d) refl
   where
     go : (t : Bool) → eqb c d ≡ t → eqb a b ≡ t
-    go true e = eq-eqb a b (g (eqb_true c d e))
-    go false e = ne_eqb a b (λ x. eqb_false c d e (f x))
+    go true e = eq-eqb a b (g (eqb-true c d e))
+    go false e = ne_eqb a b (λ x. eqb-false c d e (f x))
 
 pub adds : (a b n : ℕ) → a ≤ n → eqb (n - a) b ≡ eqb (a + b) n
 adds a b n h = eqb_same (n - a) b (a + b) n (λ e. omega (arith, e)) (λ e. omega (arith, e))

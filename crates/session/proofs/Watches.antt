@@ -2,7 +2,7 @@
 use mathlib.Core.Path.{◌≡◌, refl, sym, ap, ◌∙◌}
 use mathlib.Core.List.{List, ◌++◌}
 use Prim.Native.Nat.{ℕ, ◌*◌, ◌≤◌, ◌<◌}
-use borrow.Author.Tests.{le-leb, lt-leb, leb_true}
+use borrow.Author.Tests.{le-leb, lt-leb, leb-true}
 use lib.ListN.{length, take, drop}
 use lib.Seq.{take_at, drop_at, length-take-le}
 use lib.Dec.{leb}
@@ -114,7 +114,7 @@ module _ (xs ys ws xs' ys' ws' : List ℕ) (z : Size) (r : Told) (h : Within z x
   stays_size p s = same_size (ap (λ (u : Told). u.size) s.0)
 
   opened_size : (c : ℕ) (b : Bool) → leb c 64 ≡ b → OpenedBy b c z xs ys ws xs' ys' ws' r → Within r.size xs' ys'
-  opened_size c true e s = let k : c ≤ 64 = leb_true c 64 e in rw s.2 (omega arith, omega arith)
+  opened_size c true e s = let k : c ≤ 64 = leb-true c 64 e in rw s.2 (omega arith, omega arith)
   opened_size c false e s = stays_size (reply.Wrong fault.TooManyRows) s
 
   written_size : (m : Change) (k : M.Key) → Written m k z xs ys ws xs' ys' ws' r → Within r.size xs' ys'

@@ -8,7 +8,7 @@ use mathlib.Core.Option.{some}
 use mathlib.Core.List.{List}
 use lib.Dec.{ltb, eqb}
 use lib.ListN.{length, get_or}
-use borrow.Author.Tests.{ltb_true, ltb_false, eqb_true, eqb_false, eq-eqb, lt-leb, le-leb}
+use borrow.Author.Tests.{ltb-true, ltb-false, eqb-true, eqb-false, eq-eqb, lt-leb, le-leb}
 use Rattle.table.proofs.Tests.{by_bool, clash}
 use Rattle.rows.specs.declared.Row.{Row}
 use Rattle.rows.specs.Links.{blank}
@@ -36,7 +36,7 @@ module _ (ys : List Row) (c : Marks) where
 
   one : (k : ℕ) → c.left ≡ k → eqb c.left 0 ≡ false → mark_more c (length ys) ≡ true → marks_for k ys c ≡ marks_for next.left ys next
   unfolding marks_for
-  one zero e n m = absurd (eqb_false c.left 0 n e)
+  one zero e n m = absurd (eqb-false c.left 0 n e)
   one (suc j) e n m =
       let l : next.left ≡ j = step_left c (get_or ys c.at blank) n ∙ omega (arith, e) in
       ap (λ (t : Bool). cond t (marks_for j ys next) c) m ∙ ap (λ (i : ℕ). marks_for i ys next) (sym l)
@@ -46,7 +46,7 @@ module _ (ys : List Row) (c : Marks) where
   goes_on_lem m =
       let p = picks (eqb c.left 0) (ltb c.at (length ys)) m in
       let l : next.left ≡ c.left - 1 = step_left c (get_or ys c.at blank) p.0 in
-      record { within = ltb_true c.at (length ys) p.1; same = one c.left refl p.0 m; less = omega (arith, l, eqb_false c.left 0 p.0) }
+      record { within = ltb-true c.at (length ys) p.1; same = one c.left refl p.0 m; less = omega (arith, l, eqb-false c.left 0 p.0) }
 
   done_for : (k : ℕ) → mark_more c (length ys) ≡ false → marks_for k ys c ≡ c
   unfolding marks_for
@@ -67,8 +67,8 @@ module _ (xs : List Row) (small : length xs ≤ 4096) where
   step_marks c m =
       let p = picks (eqb c.left 0) (ltb c.at (length xs)) m in
       let e = p.0 in
-      let in_rows : c.at < length xs = ltb_true c.at (length xs) p.1 in
-      rw e (mark_goes xs (length xs) c.left c.at c.marks false refl small (sym (lt-leb (length xs) c.at in_rows)) (links_of (get_or xs c.at blank)) (omega (arith, eqb_false c.left 0 e)) refl refl)
+      let in_rows : c.at < length xs = ltb-true c.at (length xs) p.1 in
+      rw e (mark_goes xs (length xs) c.left c.at c.marks false refl small (sym (lt-leb (length xs) c.at in_rows)) (links_of (get_or xs c.at blank)) (omega (arith, eqb-false c.left 0 e)) refl refl)
 
   runs : (k : ℕ) (c : Marks) → c.left ≡ k → Over c (marks_for k xs c)
   unfolding marks_for
@@ -87,8 +87,8 @@ module _ (xs : List Row) (small : length xs ≤ 4096) where
   ends : (c r : Marks) → Over c r → (used : List ℕ) → rest_of xs c.left c.at ≡ some used → r.marks ≡ mark_all used c.marks
   ends c r o used e =
       by_bool (eqb r.left 0)
-      (λ p. mark_ends xs c.left r.left r.at r.marks c.marks c.at o.same (omega (arith, eqb_true r.left 0 p)) used e)
-      (λ p. let h : ltb r.at (length xs) ≡ false = rw p at o.over in mark_leaves xs c.left r.left r.at r.marks c.marks c.at o.same true (sym (le-leb (length xs) r.at (ltb_false r.at (length xs) h))) refl used e)
+      (λ p. mark_ends xs c.left r.left r.at r.marks c.marks c.at o.same (omega (arith, eqb-true r.left 0 p)) used e)
+      (λ p. let h : ltb r.at (length xs) ≡ false = rw p at o.over in mark_leaves xs c.left r.left r.at r.marks c.marks c.at o.same true (sym (le-leb (length xs) r.at (ltb-false r.at (length xs) h))) refl used e)
 
   pub marks_are : (c : Marks) (used : List ℕ) → rest_of xs c.left c.at ≡ some used → (marks_to xs c).marks ≡ mark_all used c.marks
   unfolding marks_to

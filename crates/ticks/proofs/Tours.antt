@@ -9,7 +9,7 @@ use mathlib.Core.Option.{some}
 use mathlib.Core.List.{List, map}
 use lib.Dec.{ltb}
 use lib.ListN.{length, get_or, replicate}
-use borrow.Author.Tests.{ltb_true, ltb_false}
+use borrow.Author.Tests.{ltb-true, ltb-false}
 use Rattle.table.specs.Machine as M
 use Rattle.table.specs.Rows.{Watch, row_at}
 use Rattle.table.proofs.Tests.{by_bool, clash}
@@ -125,7 +125,7 @@ module _ (xs : List Row) (m : ℕ) (e : Ends) (key : Key) (l : Look) (seen : Loo
 -- A ROW PASSED OVER
 module _ (w : Watch Part) (t : Tour) (list : List ℕ) (goes : Goes w t list) (more : ltb 0 t.rest ≡ true) where
   left : 0 < t.rest
-  left = ltb_true 0 t.rest more
+  left = ltb-true 0 t.rest more
 
   fine : t.fine ≡ true
   fine = goes.0 left
@@ -189,7 +189,7 @@ ends w t list out goes no_more e =
     (λ h. rw h (rw h at e))
   where
     zero_left : t.rest ≡ 0
-    zero_left = omega (arith, ltb_false 0 t.rest no_more)
+    zero_left = omega (arith, ltb-false 0 t.rest no_more)
 
     sum : t.rest ≡ 0 → t.at + t.rest ≡ t.at
     sum z = omega arith

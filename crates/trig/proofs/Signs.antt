@@ -5,7 +5,7 @@ use mathlib.Core.Bool.{Bool, true, false, not, true≢false}
 use Prim.Native.Nat.{ℕ, zero, suc, ◌+◌, ◌-◌, ◌*◌, ◌/◌, ◌^◌, ◌≤◌, ◌<◌}
 use native.Mathlib.Nat.{mul-zero, zero-mul, zero-div}
 use native.Mathlib.Omega.{arith}
-use borrow.Author.Tests.{le-ltb, lt-ltb, ltb_true}
+use borrow.Author.Tests.{le-ltb, lt-ltb, ltb-true}
 use lib.IntN.{ℤ, pos, negsuc, neg_ℤ, nat_abs, ◌-ℤ◌, ◌*ℤ◌, neg_ℤ-neg_ℤ, neg_ℤ-+ℤ, +ℤ_comm, *ℤ_comm}
 use lib.Signed.{quot_z, lt_z}
 use Rattle.trig.specs.Ticks.{scaled}
@@ -100,7 +100,7 @@ plus_minus m n = rw (neg_ℤ-neg_ℤ (pos n))
 
 -- ---- the sign of an integer, and its size
 pub below_zero : (x : ℤ) → lt_z x (pos 0) ≡ true → pos 0 -ℤ x ≡ pos (nat_abs x)
-below_zero (pos n) h = absurd (omega (arith, ltb_true n 0 h))
+below_zero (pos n) h = absurd (omega (arith, ltb-true n 0 h))
 below_zero (negsuc n) h = ap pos (omega arith)
 
 pub not_below_zero_lem : (x : ℤ) → lt_z x (pos 0) ≡ false → x ≡ pos (nat_abs x)
@@ -109,5 +109,5 @@ not_below_zero_lem (negsuc n) h = absurd (true≢false h)
 
 pub below_zero_signed : (x : ℤ) → lt_z x (pos 0) ≡ true → signed true (nat_abs x) ≡ x
 unfolding signed
-below_zero_signed (pos n) h = absurd (omega (arith, ltb_true n 0 h))
+below_zero_signed (pos n) h = absurd (omega (arith, ltb-true n 0 h))
 below_zero_signed (negsuc n) h = refl

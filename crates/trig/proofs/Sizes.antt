@@ -4,7 +4,7 @@ use mathlib.Core.Path.{◌≡◌, refl, ap}
 use mathlib.Core.Bool.{Bool, true, false}
 use Prim.Native.Nat.{ℕ, zero, suc, ◌+◌, ◌^◌, ◌≤◌}
 use native.Mathlib.Omega.{arith}
-use borrow.Author.Tests.{ltb_true, ltb_false}
+use borrow.Author.Tests.{ltb-true, ltb-false}
 use lib.Dec.{ltb}
 use lib.IntN.{ℤ, pos, negsuc, neg_ℤ, nat_abs, sub_ℕ, ◌+ℤ◌, ◌-ℤ◌}
 use lib.Signed.{mag}
@@ -13,8 +13,8 @@ use mir.Val.{SFits, to_z, of_z}
 use mir.ValLaws.{to_z-of_z}
 
 by_test : (a b : ℕ) (t : Bool) → ltb a b ≡ t → nat_abs (sub_ℕ a b) ≤ a + b
-by_test a b true e = rw e (omega (arith, ltb_true a b e))
-by_test a b false e = rw e (omega (arith, ltb_false a b e))
+by_test a b true e = rw e (omega (arith, ltb-true a b e))
+by_test a b false e = rw e (omega (arith, ltb-false a b e))
 
 size_subℕ : (a b : ℕ) → nat_abs (sub_ℕ a b) ≤ a + b
 size_subℕ a b = by_test a b (ltb a b) refl

@@ -9,7 +9,7 @@ use mathlib.Core.Option.{Option, none, some}
 use mathlib.Core.List.{List, ◌++◌, map}
 use lib.Dec.{leb, eqb}
 use lib.ListN.{length, get_or, take, drop, replicate, length-append}
-use borrow.Author.Tests.{not_true, not-false}
+use borrow.Author.Tests.{not-true, not-false}
 use Rattle.table.specs.Machine as M
 use Rattle.table.specs.Rows.{Watch, zero_key}
 use Rattle.table.specs.Questions.{most, question1, question2, chain, chains_match, all_sound, find_row}
@@ -145,7 +145,7 @@ module _ (xs : List Row) (ys ws : List ℕ) (e : Ends) (key : Key) (l : Look) (e
 
       -- question 8
       pub turn_eight : r ≡ true → refusal list 8 ≡ turn_on form (watch_is xs ys ws) next k list
-      turn_eight h = (let p = pass.one in let s = pass.two in let u : question8 (length w.rows) k list ≡ false = sym eight ∙ not_true q (sym other ∙ h) in rw (p, s, u)) ∙ same_watch
+      turn_eight h = (let p = pass.one in let s = pass.two in let u : question8 (length w.rows) k list ≡ false = sym eight ∙ not-true q (sym other ∙ h) in rw (p, s, u)) ∙ same_watch
 
       module _ (h : r ≡ false) where
         may : question8 (length w.rows) k list ≡ true

@@ -10,7 +10,7 @@ use mathlib.Core.List.{List, [], ◌++◌, map, append-nil, append_assoc}
 use lib.Dec.{leb, eqb}
 use lib.ListN.{length, get_or, set, take, drop, length-drop, drop_of_length-le}
 use lib.Seq.{sets, sets-eq, length-sets, take_all, drop-drop}
-use borrow.Author.Tests.{lt-ltb, le-ltb, le-leb, lt-leb, leb_true, leb-false, eq-eqb, ne_eqb}
+use borrow.Author.Tests.{lt-ltb, le-ltb, le-leb, lt-leb, leb-true, leb-false, eq-eqb, ne_eqb}
 use Rattle.table.specs.Rows.{NONE, row_at}
 use Rattle.table.specs.Questions.{chain, onto}
 use Rattle.table.proofs.Tests.{by_bool}
@@ -106,7 +106,7 @@ module _ (xs : List Row) (n left at : ℕ) (marks marks₀ : List Bool) (head : 
     where
       outside : (f : ℕ) → rest_of xs f at ≡ cond (eqb at NONE) (some []) none
       outside zero = refl
-      outside (suc f) = rw (le-ltb at (length (map row_is xs)) (omega (arith, rows_long_lem xs, leb_true (length xs) at (sym test ∙ out))))
+      outside (suc f) = rw (le-ltb at (length (map row_is xs)) (omega (arith, rows_long_lem xs, leb-true (length xs) at (sym test ∙ out))))
 
   pub mark_ends : left ≤ 0 → (used : List ℕ) → rest_of xs n head ≡ some used → marks ≡ mark_all used marks₀
   mark_ends h used e = ended at marks marks₀ (rest_of xs n head) (ap (λ (f : ℕ). marked (rest_of xs f at) marks) none_left ∙ inv) used e

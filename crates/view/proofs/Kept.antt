@@ -3,15 +3,15 @@ use mathlib.Core.Path.{◌≡◌, refl, sym, ap, ◌∙◌}
 use mathlib.Core.Bool.{Bool, true, false, ◌||◌}
 use Prim.Native.Nat.{ℕ, ◌+◌, ◌-◌, ◌≤◌, ◌<◌}
 use native.Mathlib.Omega.{arith}
-use borrow.Author.Tests.{eq-eqb, ne_eqb, eqb_true, eqb_false}
+use borrow.Author.Tests.{eq-eqb, ne_eqb, eqb-true, eqb-false}
 use lib.Dec.{eqb}
 
 pub earlier : (n now : ℕ) → n < now → eqb (now - n) 1 ≡ (eqb n now || eqb (n + 1) now)
 earlier n now l = by (eqb (n + 1) now) refl ∙ ap (λ (b : Bool). b || eqb (n + 1) now) (sym (ne_eqb n now (λ q. omega arith)))
   where
     by : (b : Bool) → eqb (n + 1) now ≡ b → eqb (now - n) 1 ≡ eqb (n + 1) now
-    by true e = eq-eqb (now - n) 1 (omega (arith, eqb_true (n + 1) now e)) ∙ sym e
-    by false e = ne_eqb (now - n) 1 (λ q. eqb_false (n + 1) now e (omega arith)) ∙ sym e
+    by true e = eq-eqb (now - n) 1 (omega (arith, eqb-true (n + 1) now e)) ∙ sym e
+    by false e = ne_eqb (now - n) 1 (λ q. eqb-false (n + 1) now e (omega arith)) ∙ sym e
 
 or_false : (b : Bool) → b ≡ (b || false)
 or_false true = refl

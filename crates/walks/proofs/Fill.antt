@@ -12,7 +12,7 @@ use mathlib.Core.Bool.{Bool}
 use mathlib.Core.List.{List, [], ◌∷◌}
 use lib.Dec.{T as Holds, ltb}
 use lib.ListN.{length, set}
-use borrow.Author.Tests.{ltb_true, ltb_false}
+use borrow.Author.Tests.{ltb-true, ltb-false}
 use seplogic.Ra.Ura.{Ura}
 use seplogic.Ra.TreeShare.{full_share}
 use mir.Syntax.{Name, Ty, Fn, Body, named, erased, mut, w64, ty_int, ty_bool, ty_unit, ty_ref, field, deref, place, copy, int, opd_unit, unsigned, local, value_local, skip as skipᴹ, seq, assign, block, loop, cond, exit, call, return, rv_opd, op2, lt, add, addr_of, aggregate}
@@ -152,7 +152,7 @@ module _ (T : S.Declared) (L : SL.Laws T) (pl : SS.Plains (S.fields T)) (cp : SL
             first ! $ blocks ! $ loops ! 𝓣' Nearer (falls (λ (x : X). n - x.i)) At (λ x.
             assigns ! (of_opd ! (load ! (from ! (fld ! refl (stop !))) (look_in ! 18 (sub ! 1 refl (whole !))))) (from ! (stop !)) (init ! 12 refl (tt, record { fits = room.0 })) $
             assigns ! (bin ! (load ! (from ! (stop !)) (look ! 14 refl)) (load ! (from ! (stop !)) (look ! 12 refl)) tt) (from ! (stop !)) (init ! 10 refl (tt, tt)) $ on_bool (ltb x.i n)
-            (λ yes. let within : x.i < n = ltb_true x.i n yes in let fits : x.i < 2 ^ 64 = omega (arith, room.0, within) in let fits' : x.i + 1 < 2 ^ 64 = omega (arith, room.0, within) in
+            (λ yes. let within : x.i < n = ltb-true x.i n yes in let fits : x.i < 2 ^ 64 = omega (arith, room.0, within) in let fits' : x.i + 1 < 2 ^ 64 = omega (arith, room.0, within) in
             rewrite ! 10 (λ (u : Bool). ‵ (fat full_share ty_bool l₅ 0 (vbool u))) yes refl $ stays ! (load ! (from ! (stop !)) (look ! 10 refl)) $
             assigns ! (addr ! (from ! (fld ! refl (hop ! (look_in ! 18 (sub ! 0 refl (whole !))) (stop !))))) (from ! (stop !)) (init ! 6 refl (tt, tt)) $
             assigns ! (agg ! (and_then ! (load ! (from ! (stop !)) (look ! 6 refl)) (and_then ! (load ! (from ! (fld ! refl (stop !))) (look_in ! 18 (sub ! 1 refl (whole !)))) (no_more !)))) (from ! (stop !)) (init ! 4 refl (tt, (tt, (record { fits = room.0 }, tt)))) $
@@ -168,7 +168,7 @@ module _ (T : S.Declared) (L : SL.Laws T) (pl : SS.Plains (S.fields T)) (cp : SL
             (λ no. rewrite ! 10 (λ (u : Bool). ‵ (fat full_share ty_bool l₅ 0 (vbool u))) no refl $ leaves_loop ! (load ! (from ! (stop !)) (look ! 10 refl)) $ exec ! 𝓣'.C 𝓣'.Λ E (fill_rest τ ε ρ made put) (at_ret E Post) $
             assigns ! (of_opd ! (unit_lit !)) (from ! (stop !)) (init ! 20 refl (tt, tt)) $ returns ! (look ! 20 refl) $
             out ! 20 refl refl $ out ! 18 refl refl $ out ! 16 refl refl $ out ! 14 refl refl $ out ! 12 refl refl $ out ! 10 refl refl $ out_room ! 8 refl refl $ out_room ! 6 refl refl $ out_room ! 4 refl refl $ out_room ! 2 refl refl $ free0 ! $
-            by ! (mut_exits R (F ∷ []) none (W 𝓛 𝓜 𝓡) c κ q γ b o ys (v, tt) g tt x.zs x.len refl (ens κ (ref_at b o ys γ) v g x.zs (sym (makes_no_more (made_of v) n x.i x.zs (ltb_false x.i n no)) ∙ x.same))))) x₀
+            by ! (mut_exits R (F ∷ []) none (W 𝓛 𝓜 𝓡) c κ q γ b o ys (v, tt) g tt x.zs x.len refl (ens κ (ref_at b o ys γ) v g x.zs (sym (makes_no_more (made_of v) n x.i x.zs (ltb-false x.i n no)) ∙ x.same))))) x₀
 
     pub fills : Meets 𝓛 (mut_ended R (F ∷ []) none).signature (𝓡.run (env k)) (closing 𝓛 (mut_ended R (F ∷ []) none) c)
     fills = mut_closed 𝓛 𝓜 𝓡 R (F ∷ []) none env k (fill_fn τ ε ρ made put) unfolded c (λ κ q γ b o ys a g room fit. via 𝓤 _ (fst∗ 𝓤 _ ((c (κ, tt) (ref_at b o ys γ, a)).requires g))

@@ -4,7 +4,7 @@ use mathlib.Core.List.{List}
 use mathlib.Core.Path.{◌≡◌, sym, ap, ◌∙◌}
 use Prim.Native.Nat.{ℕ, ◌-◌, ◌≤◌, ◌<◌}
 use native.Mathlib.Omega.{arith}
-use borrow.Author.Tests.{ltb_false}
+use borrow.Author.Tests.{ltb-false}
 use lib.ListN.{get_or}
 use Rattle.cells.proofs.Words.{count_small}
 use Rattle.cells.proofs.Passes.{pass_none}
@@ -100,7 +100,7 @@ loop_again_2 c =
     let s = c.before.before.before.before.args in
     let w = get_or s.t2 l.j 0 in
     let free = sym c.before.occupied.ensures ∙ c.if1.false in
-    let none : count_of w ≡ 0 = omega (arith, ltb_false 0 (count_of w) free) in
+    let none : count_of w ≡ 0 = omega (arith, ltb-false 0 (count_of w) free) in
     (omega (arith, inside c.before.before), gather_none l.at (bin_step l.j) (count_of w) none ∙ gather_next bin_step s.t2 s.cells l.at l.j l.invariant.1, seen_none _ l.seen l.j l.invariant.2 free)
 
 returns : tie.Need-returns invariant_loop decreases_loop

@@ -1,7 +1,7 @@
 -- A cell that is empty, or not over 3 km away, marks nothing; any other marks the sector of the definition.
 use Rattle.outside.proofs.Heard.{cell_far, cell_near}
 use Rattle.plane.proofs.Same.{same_dist, same_sector}
-use borrow.Author.Tests.{not_true, not-false}
+use borrow.Author.Tests.{not-true, not-false}
 use mathlib.Core.Path.{refl, sym, ◌∙◌}
 use Prim.Native.Nat.{◌/◌}
 use borrow.Author.Rules.{rules}
@@ -14,7 +14,7 @@ occupied_requires c κs = search rules
 
 -- src/lib.rt:53:9
 returns : tie.Need-returns
-returns c = rw (sym c.before.occupied.ensures ∙ not_true _ c.if1.true)
+returns c = rw (sym c.before.occupied.ensures ∙ not-true _ c.if1.true)
 
 -- src/lib.rt:55:9
 east_of_requires : tie.Need-east-of-requires

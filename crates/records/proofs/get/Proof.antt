@@ -3,7 +3,7 @@
 use Rattle.walks.proofs.Kit.{Head, Ty, entry, spelled, Fits, ◌≡◌, refl, sym, ◌∙◌, ℕ, List, [], ◌∷◌, length, get_or, Ura, named, SProp, ent, emp, id⊢, via, fst∗, Lft, Share, GName, flft, Memory, Routine, Calls, Loops, WpFn, Fun, fact_i, ⋆, ‵, ◌$◌, ◌∵◌, !, qed, by, move, look, init, stop, fld, from, load, of_opd, and_then, no_more, assigns, land, returns, returns_within, enter, alloc1, alloc0, params1, pass1, pass0, free0, whole, sub, look_in, FmC, Is, ShrSlice, slice_val, Room, Meets, ref_at, call_plain, call_shared, guards, the-given, the-tables, known, framed, shr_closed, truth, out, shr_exits, ShrPost}
 use lib.Dec.{leb}
 use types.Logic.{Logic}
-use borrow.Author.Tests.{leb_true, leb-false}
+use borrow.Author.Tests.{leb-true, leb-false}
 use Rattle.rows.specs.declared.Row.{Row}
 use Rattle.rows.specs.Links.{blank, unmade}
 use Rattle.rows.proofs.Tables.{get_out}
@@ -50,7 +50,7 @@ module _ {M : Type 1} {𝓤 : Ura M} (𝓛 : Logic 𝓤) (mem : Memory → SProp
       call_plain ! fm ([]) row (unmade.clauses 𝓛 mem run) met-unmade tt tt tt (id⊢ 𝓤 (emp 𝓤)) (λ r. r ≡ blank) (λ _ _. id⊢ 𝓤 _) (λ _. no_more !) (λ r3 r3-is e3.
       land ! (from ! (stop !)) (init ! 14 refl (fits-row r3 r3-is)) $
       returns_within ! (ShrPost R (link ∷ []) row 𝓛 (get.clauses 𝓛 mem run) κ q γ b o xs (at, tt) tt) refl (look ! 14 refl) $ out ! 14 refl refl $ out ! 12 refl refl $ out ! 10 refl refl $ out ! 8 refl refl $ out ! 6 refl refl $ out ! 4 refl refl $ out ! 2 refl refl $ free0 ! $ move ! (0 ∷ 1 ∷ []) $
-      by ! (shr_exits R (link ∷ []) row 𝓛 (get.clauses 𝓛 mem run) κ q γ b o xs (at, tt) tt r3 r3-is (fact_i 𝓤 _ (emp 𝓤) (e3 ∙ get_out xs at r1 e1 (leb_true (length xs) r1 (sym e2 ∙ yes1)))))))
+      by ! (shr_exits R (link ∷ []) row 𝓛 (get.clauses 𝓛 mem run) κ q γ b o xs (at, tt) tt r3 r3-is (fact_i 𝓤 _ (emp 𝓤) (e3 ∙ get_out xs at r1 e1 (leb-true (length xs) r1 (sym e2 ∙ yes1)))))))
       (λ no1.
       call_shared R xs ! fm (index ∷ []) row (row_at.clauses 𝓛 mem run) met-row-at (r1, tt) (r1-is, tt) tt (fact_i 𝓤 _ (emp 𝓤) (leb-false (length xs) r1 (sym e2 ∙ no1))) (λ r. r ≡ get_or xs r1 blank) (λ _ _. id⊢ 𝓤 _) (λ _ _. and_then ! (load ! (from ! (stop !)) (look ! 12 refl)) (and_then ! (load ! (from ! (stop !)) (look ! 8 refl)) (no_more !))) (λ r4 r4-is e4.
       land ! (from ! (stop !)) (init ! 14 refl (fits-row r4 r4-is)) $

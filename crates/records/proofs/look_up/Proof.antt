@@ -3,7 +3,7 @@
 use Rattle.walks.proofs.Kit.{Head, Ty, entry, spelled, Fits, ◌≡◌, refl, sym, ◌∙◌, ap, ℕ, List, [], ◌∷◌, length, Ura, named, SProp, ent, emp, id⊢, via, fst∗, Lft, Share, GName, flft, Memory, Routine, Calls, Loops, WpFn, Fun, fact_i, ⋆, ‵, ◌$◌, ◌∵◌, !, qed, by, move, look, init, store, stop, fld, from, load, of_opd, and_then, no_more, assigns, land, returns, returns_within, enter, alloc1, alloc0, params1, pass1, pass0, free0, whole, sub, look_in, FmC, Is, ShrSlice, slice_val, Room, Meets, ref_at, call_plain, call_shared, guards, the-given, the-tables, known, framed, shr_closed, truth, out, out_room, shr_exits, ShrPost}
 use mathlib.Core.Bool.{true, false, not}
 use types.Logic.{Logic}
-use borrow.Author.Tests.{not_true, not-false}
+use borrow.Author.Tests.{not-true, not-false}
 use Rattle.rows.specs.declared.Row.{Row}
 use Rattle.scans.specs.declared.Ends.{Ends}
 use Rattle.scans.specs.declared.Key.{Key}
@@ -63,7 +63,7 @@ module _ {M : Type 1} {𝓤 : Ura M} (𝓛 : Logic 𝓤) (mem : Memory → SProp
       call_plain ! fm ([]) looked (no_one.clauses 𝓛 mem run) met-no-one tt tt tt (id⊢ 𝓤 (emp 𝓤)) (λ r. r ≡ L.No 1) (λ _ _. id⊢ 𝓤 _) (λ _. no_more !) (λ r3 r3-is e3.
       land ! (from ! (stop !)) (init ! 24 refl (fits-looked r3 r3-is)) $
       returns_within ! (ShrPost R (index ∷ ends ∷ key ∷ []) looked 𝓛 (look_up.clauses 𝓛 mem run) κ q γ b o xs (m, (e, (k, tt))) tt) refl (look ! 24 refl) $ out ! 24 refl refl $ out ! 22 refl refl $ out ! 20 refl refl $ out ! 18 refl refl $ out ! 16 refl refl $ out ! 14 refl refl $ out ! 12 refl refl $ out_room ! 10 refl refl $ out_room ! 8 refl refl $ out ! 6 refl refl $ out ! 4 refl refl $ out_room ! 2 refl refl $ free0 ! $ move ! (0 ∷ 1 ∷ []) $
-      by ! (shr_exits R (index ∷ ends ∷ key ∷ []) looked 𝓛 (look_up.clauses 𝓛 mem run) κ q γ b o xs (m, (e, (k, tt))) tt r3 r3-is (fact_i 𝓤 _ (emp 𝓤) (looks_not xs m e k r1 r3 e1 (not_true r1 (sym e2 ∙ yes1)) e3)))))
+      by ! (shr_exits R (index ∷ ends ∷ key ∷ []) looked 𝓛 (look_up.clauses 𝓛 mem run) κ q γ b o xs (m, (e, (k, tt))) tt r3 r3-is (fact_i 𝓤 _ (emp 𝓤) (looks_not xs m e k r1 r3 e1 (not-true r1 (sym e2 ∙ yes1)) e3)))))
       (λ no1.
       assigns ! (of_opd ! (load ! (from ! (fld ! refl (stop !))) (look_in ! 22 (sub ! 1 refl (whole !))))) (from ! (stop !)) (store ! 6 refl (tt, record { fits = room.0 })) $
       call_plain ! fm (index ∷ ends ∷ key ∷ []) cursor (used_start.clauses 𝓛 mem run) met-used-start ((length xs), (e, (k, tt))) ((refl, room.0), (e-is, (k-is, tt))) tt (id⊢ 𝓤 (emp 𝓤)) (λ r. r ≡ start_of (length xs) e.head true k) (λ _ _. id⊢ 𝓤 _) (λ _. and_then ! (load ! (from ! (stop !)) (look ! 7 refl)) (and_then ! (load ! (from ! (stop !)) (look ! 19 refl)) (and_then ! (load ! (from ! (stop !)) (look ! 17 refl)) (no_more !)))) (λ r4 r4-is e4.

@@ -3,7 +3,7 @@
 use Rattle.walks.proofs.Kit.{Head, Ty, entry, spelled, Fits, ◌≡◌, refl, sym, ◌∙◌, ℕ, List, [], ◌∷◌, length, set, Ura, named, SProp, ent, emp, id⊢, via, fst∗, Lft, Share, GName, flft, Memory, Routine, Calls, Loops, WpFn, Fun, fact_i, ⋆, ‵, ◌$◌, ◌∵◌, !, qed, by, move, look, init, stop, hop, fld, from, load, unit_lit, addr, of_opd, and_then, no_more, assigns, land, returns, returns_within, enter, alloc1, alloc0, params1, pass1, pass0, free0, whole, sub, agg, look_in, FmC, Is, MutSlice, slice_val, Room, Meets, ref_at, call_plain, call_mut, guards, the-given, the-tables, known, framed, mut_closed, none, truth, out, out_room, mut_exits, MutPost}
 use lib.Dec.{leb}
 use types.Logic.{Logic}
-use borrow.Author.Tests.{leb_true, leb-false}
+use borrow.Author.Tests.{leb-true, leb-false}
 use Rattle.rows.specs.declared.Row.{Row}
 use Rattle.rows.proofs.Tables.{put_out}
 use Rattle.records.proofs.Types.{R, index, link, row}
@@ -45,7 +45,7 @@ module _ {M : Type 1} {𝓤 : Ura M} (𝓛 : Logic 𝓤) (mem : Memory → SProp
       (λ yes1.
       assigns ! (of_opd ! (unit_lit !)) (from ! (stop !)) (init ! 22 refl (tt, tt)) $
       returns_within ! (MutPost R (link ∷ row ∷ []) none 𝓛 (put.clauses 𝓛 mem run) κ q γ b o xs (at, (x, tt)) tt) refl (look ! 22 refl) $ out ! 22 refl refl $ out ! 20 refl refl $ out ! 18 refl refl $ out ! 16 refl refl $ out ! 14 refl refl $ out ! 12 refl refl $ out ! 10 refl refl $ out ! 8 refl refl $ out_room ! 6 refl refl $ out_room ! 4 refl refl $ out_room ! 2 refl refl $ free0 ! $ move ! (0 ∷ 1 ∷ []) $
-      by ! (mut_exits R (link ∷ row ∷ []) none 𝓛 (put.clauses 𝓛 mem run) κ q γ b o xs (at, (x, tt)) tt tt xs refl refl (fact_i 𝓤 _ (emp 𝓤) (put_out xs at r1 x e1 (leb_true (length xs) r1 (sym e2 ∙ yes1))))))
+      by ! (mut_exits R (link ∷ row ∷ []) none 𝓛 (put.clauses 𝓛 mem run) κ q γ b o xs (at, (x, tt)) tt tt xs refl refl (fact_i 𝓤 _ (emp 𝓤) (put_out xs at r1 x e1 (leb-true (length xs) r1 (sym e2 ∙ yes1))))))
       (λ no1.
       assigns ! (addr ! (from ! (fld ! refl (hop ! (look_in ! 20 (sub ! 0 refl (whole !))) (stop !))))) (from ! (stop !)) (init ! 4 refl (tt, tt)) $
       assigns ! (agg ! (and_then ! (load ! (from ! (stop !)) (look ! 4 refl)) (and_then ! (load ! (from ! (fld ! refl (stop !))) (look_in ! 20 (sub ! 1 refl (whole !)))) (no_more !)))) (from ! (stop !)) (init ! 2 refl (tt, (tt, (record { fits = room.0 }, tt)))) $

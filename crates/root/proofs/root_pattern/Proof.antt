@@ -1,5 +1,5 @@
 -- `root::root_pattern` meets its contract: the loop keeps n * 2 ^ k, and `pattern_of` reads the result. Assumes nothing.
-use Rattle.std.proofs.Common.{◌≡◌, ℕ, zero, suc, ◌+◌, ◌-◌, ◌*◌, ◌%◌, ◌^◌, ◌<◌, ◌≤◌, sym, refl, ap, ◌∙◌, subst, lt_irrefl, mul_assoc, mul_one, arith}
+use Rattle.std.proofs.Common.{◌≡◌, ℕ, zero, suc, ◌+◌, ◌-◌, ◌*◌, ◌%◌, ◌^◌, ◌<◌, ◌≤◌, sym, refl, ap, ◌∙◌, subst, lt_irrefl, mul_assoc, mul-one, arith}
 use native.Mathlib.Nat.{pow-succ'}
 use Rattle.root.proofs.Whole.{twice_at_most, once_at_least}
 use Rattle.root.proofs.Guessed.{nearest_le}
@@ -17,7 +17,7 @@ record Normal (m h n k : ℕ) : Type 0 where
 
 -- while the leading digit is not in its place there are places left
 places_left : (m h n k : ℕ) → Normal m h n k → n < 2 ^ 52 → 0 < k
-places_left m h n zero t l = absurd (no_room (n * 2 ^ 0) (m * 2 ^ h) n t.same t.large (mul_one n) l)
+places_left m h n zero t l = absurd (no_room (n * 2 ^ 0) (m * 2 ^ h) n t.same t.large (mul-one n) l)
   where
     no_room : (a b n : ℕ) → a ≡ b → 2 ^ 52 ≤ b → a ≡ n → n < 2 ^ 52 → ⊥
     no_room a b n e h f l = omega arith

@@ -3,7 +3,7 @@
 use Rattle.walks.proofs.Kit.{Head, Ty, entry, spelled, Fits, ◌≡◌, refl, sym, ◌∙◌, ℕ, List, [], ◌∷◌, length, Ura, vptr, SProp, ent, emp, id⊢, via, snd∗, Lft, Share, GName, Memory, Routine, Calls, Loops, WpFn, Fun, fact_i, ⋆, ◌$◌, ◌∵◌, !, qed, by, move, look, init, store, stop, hop, fld, from, load, addr, of_opd, and_then, no_more, assigns, land, returns, returns_within, enter, alloc1, alloc0, params1, pass1, pass0, free0, whole, sub, agg, look_in, FmC, u32, Array, slice_val, Room, Meets, ref_at, thin_at, call_plain, call_mut, call_ref, guards, the-given, the-tables, known, framed, none, truth, out, out_room, Held, three_exits, ThreePost, three_closed}
 use mathlib.Core.Bool.{not}
 use types.Logic.{Logic}
-use borrow.Author.Tests.{not_true, not-false}
+use borrow.Author.Tests.{not-true, not-false}
 use Rattle.rows.specs.declared.Row.{Row}
 use Rattle.rows.specs.Read.{ends_is, ends_of}
 use Rattle.rows.specs.Links.{fresh_from}
@@ -71,7 +71,7 @@ module _ {M : Type 1} {𝓤 : Ura M} (𝓛 : Logic 𝓤) (mem : Memory → SProp
       call_plain ! fm ([]) answer_datum (no-first.clauses 𝓛 mem run) met-no-first tt tt tt (id⊢ 𝓤 (emp 𝓤)) (λ r. r ≡ saying (Wd.Refused 1)) (λ _ _. id⊢ 𝓤 _) (λ _. no_more !) (λ r3 r3-is e3.
       land ! (from ! (stop !)) (init ! 38 refl (fits-answer-datum r3 r3-is)) $
       returns_within ! (ThreePost R u32 (Array u32 3) ([]) answer_datum 𝓛 (fresh.clauses 𝓛 mem run) (κ₁, (κ₂, (κ₃, tt))) (q₁, (q₂, (q₃, tt))) (ref_at b₁ o₁ xs γ₁) (ref_at b₂ o₂ ys γ₂) (thin_at b₃ o₃ ws γ₃) tt tt) refl (look ! 38 refl) $ out ! 38 refl refl $ out ! 36 refl refl $ out ! 34 refl refl $ out ! 32 refl refl $ out ! 30 refl refl $ out ! 28 refl refl $ out_room ! 26 refl refl $ out ! 24 refl refl $ out ! 22 refl refl $ out ! 20 refl refl $ out_room ! 18 refl refl $ out_room ! 16 refl refl $ out_room ! 14 refl refl $ out_room ! 12 refl refl $ out_room ! 10 refl refl $ out_room ! 8 refl refl $ out_room ! 6 refl refl $ free0 ! $ move ! (0 ∷ 1 ∷ 2 ∷ 3 ∷ 4 ∷ 5 ∷ []) $
-      by ! (three_exits R u32 (Array u32 3) ([]) answer_datum 𝓛 (fresh.clauses 𝓛 mem run) (κ₁, (κ₂, (κ₃, tt))) (q₁, (q₂, (q₃, tt))) (ref_at b₁ o₁ xs γ₁) (ref_at b₂ o₂ ys γ₂) (thin_at b₃ o₃ ws γ₃) tt tt r3 xs ys ws refl refl r3-is (fact_i 𝓤 _ (emp 𝓤) (fresh_no xs ys ws r1 r3 e1 (not_true r1 (sym e2 ∙ yes1)) e3)))))
+      by ! (three_exits R u32 (Array u32 3) ([]) answer_datum 𝓛 (fresh.clauses 𝓛 mem run) (κ₁, (κ₂, (κ₃, tt))) (q₁, (q₂, (q₃, tt))) (ref_at b₁ o₁ xs γ₁) (ref_at b₂ o₂ ys γ₂) (thin_at b₃ o₃ ws γ₃) tt tt r3 xs ys ws refl refl r3-is (fact_i 𝓤 _ (emp 𝓤) (fresh_no xs ys ws r1 r3 e1 (not-true r1 (sym e2 ∙ yes1)) e3)))))
       (λ no1.
       assigns ! (of_opd ! (load ! (from ! (fld ! refl (stop !))) (look_in ! 36 (sub ! 1 refl (whole !))))) (from ! (stop !)) (init ! 26 refl (tt, record { fits = room₁.0 })) $
       assigns ! (addr ! (from ! (fld ! refl (hop ! (look_in ! 36 (sub ! 0 refl (whole !))) (stop !))))) (from ! (stop !)) (init ! 16 refl (tt, tt)) $

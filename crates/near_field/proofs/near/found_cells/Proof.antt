@@ -5,7 +5,7 @@ use Rattle.plane.specs.Plane.{east_of, north_of}
 use Rattle.cells.specs.Passes.{how_many}
 use lib.Dec.{leb}
 use lib.Count.{ones}
-use borrow.Author.Tests.{not_true, not-false}
+use borrow.Author.Tests.{not-true, not-false}
 use native.Mathlib.Omega.{arith}
 use mathlib.Core.Path.{◌≡◌, sym, ap, ◌∙◌}
 use Prim.Native.Nat.{ℕ, ◌/◌}
@@ -49,7 +49,7 @@ occupied_requires c κs = search rules
 returns : tie.Need-returns
 returns c =
     let c3 = c.before.before.before in
-    f_empty c3.args.grid.now c3.args.i (sym c.before.occupied.ensures ∙ not_true _ c.if1.true)
+    f_empty c3.args.grid.now c3.args.i (sym c.before.occupied.ensures ∙ not-true _ c.if1.true)
 
 -- src/near.rt:80:9
 east_of_requires : tie.Need-east-of-requires

@@ -2,7 +2,7 @@
 use Rattle.around.specs.Marks.{near}
 use Rattle.plane.proofs.Same.{same_dist}
 use lib.Dec.{leb}
-use borrow.Author.Tests.{not_true, not-false}
+use borrow.Author.Tests.{not-true, not-false}
 use mathlib.Core.Path.{refl, sym, ap, ◌∙◌}
 use Prim.Native.Nat.{ℕ, ◌/◌}
 use borrow.Author.Rules.{rules}
@@ -15,7 +15,7 @@ occupied_requires c κs = search rules
 
 -- src/near.rt:44:9
 returns : tie.Need-returns
-returns c = rw (sym c.before.occupied.ensures ∙ not_true _ c.if1.true)
+returns c = rw (sym c.before.occupied.ensures ∙ not-true _ c.if1.true)
 
 -- src/near.rt:46:21
 east_of_requires : tie.Need-east-of-requires

@@ -3,7 +3,7 @@ use Rattle.near_field.proofs.Judged.{nf_fits, nf_four, nf_inside, nf_hole, nf_re
 use Rattle.around.specs.declared.Nearby.{Nearby}
 use Rattle.near_field.specs.Near.{best_or_none}
 use Rattle.around.specs.Marks.{around_of, sectors_in}
-use borrow.Author.Tests.{not_true, not-false}
+use borrow.Author.Tests.{not-true, not-false}
 use Prim.Native.Nat.{◌/◌}
 use mathlib.Core.Path.{◌≡◌, sym, ap, ◌∙◌}
 use borrow.Author.Rules.{rules}
@@ -39,7 +39,7 @@ returns_3 c =
     let c6 = c3.before.before.before in
     let s = c6.args in
     nf_inside s.scale s.grid.now _ (many (c3)) s.outside c.before.before.if1.false c.before.if2.false
-    (not_true s.outside c.if3.true)
+    (not-true s.outside c.if3.true)
 
 -- src/near.rt:189:8
 no_hole_requires : tie.Need-no-hole-requires
