@@ -7,11 +7,11 @@ ghost use Rattle.cells.specs.Cells.{bits_of, occupied_word};
 ghost use Rattle.cells.specs.Passes.{how_many};
 ghost use Rattle.plane.specs.Plane.{square, apart};
 ghost use Rattle.around.specs.Marks.{marks_of, bits_in, near};
-ghost use Rattle.around.specs.Counts.{counts_of_lem, under, cut_at, span_of};
+ghost use Rattle.around.specs.Counts.{counts_of, under, cut_at, span_of};
 
 // Before each cell, how many are occupied.
 pub fn heard_before(grid: &[u32; 1600]) -> [u32; 1601]
-    ensures { result ≡ counts_of_lem grid.now }
+    ensures { result ≡ counts_of grid.now }
 {
     let mut heard = [0u32; 1601];
     let mut n: u32 = 0;
@@ -82,7 +82,7 @@ fn span(heard: &[u32; 1601], marks: [bool; 8], from: usize, to: usize, sector: u
 // A row m half cells north of the place.
 fn north_row(heard: &[u32; 1601], marks: [bool; 8], x: u32, y: u32, row: usize) -> [bool; 8]
     requires { (x < 80) × (row < 40) × (x % 2 ≡ y % 2) × (y < 2 * row + 1) × (2 * row + 1 ≤ y + 10) }
-    ensures { (g : List ℕ) → heard.now ≡ counts_of_lem g → marks ≡ marks_of g x y (40 * row) → result ≡ marks_of g x y (40 * (row + 1)) }
+    ensures { (g : List ℕ) → heard.now ≡ counts_of g → marks ≡ marks_of g x y (40 * row) → result ≡ marks_of g x y (40 * (row + 1)) }
 {
     let m = plane::between(2 * (row as u32) + 1, y);
     let h = reach(m);
@@ -100,7 +100,7 @@ fn north_row(heard: &[u32; 1601], marks: [bool; 8], x: u32, y: u32, row: usize) 
 // A row m half cells south of the place.
 fn south_row(heard: &[u32; 1601], marks: [bool; 8], x: u32, y: u32, row: usize) -> [bool; 8]
     requires { (x < 80) × (row < 40) × (x % 2 ≡ y % 2) × (2 * row + 1 < y) × (y ≤ 2 * row + 11) }
-    ensures { (g : List ℕ) → heard.now ≡ counts_of_lem g → marks ≡ marks_of g x y (40 * row) → result ≡ marks_of g x y (40 * (row + 1)) }
+    ensures { (g : List ℕ) → heard.now ≡ counts_of g → marks ≡ marks_of g x y (40 * row) → result ≡ marks_of g x y (40 * (row + 1)) }
 {
     let m = plane::between(2 * (row as u32) + 1, y);
     let h = reach(m);
@@ -118,7 +118,7 @@ fn south_row(heard: &[u32; 1601], marks: [bool; 8], x: u32, y: u32, row: usize) 
 // The row of the place. The place's own cell is not over 3 km away.
 fn level_row(heard: &[u32; 1601], marks: [bool; 8], x: u32, row: usize) -> [bool; 8]
     requires { (x < 80) × (row < 40) × (x % 2 ≡ 1) }
-    ensures { (g : List ℕ) → heard.now ≡ counts_of_lem g → marks ≡ marks_of g x (2 * row + 1) (40 * row) → result ≡ marks_of g x (2 * row + 1) (40 * (row + 1)) }
+    ensures { (g : List ℕ) → heard.now ≡ counts_of g → marks ≡ marks_of g x (2 * row + 1) (40 * row) → result ≡ marks_of g x (2 * row + 1) (40 * (row + 1)) }
 {
     let h = reach(0);
     let a = span(heard, marks, cut(row, plane::less(x, h)), cut(row, x), 6);
@@ -128,7 +128,7 @@ fn level_row(heard: &[u32; 1601], marks: [bool; 8], x: u32, row: usize) -> [bool
 // The marks of a row besides.
 fn row_marks(heard: &[u32; 1601], marks: [bool; 8], x: u32, y: u32, row: usize) -> [bool; 8]
     requires { (x < 80) × (y < 80) × (row < 40) × (x % 2 ≡ y % 2) × (2 * row + 1 ≤ y + 10) × (y ≤ 2 * row + 11) }
-    ensures { (g : List ℕ) → heard.now ≡ counts_of_lem g → marks ≡ marks_of g x y (40 * row) → result ≡ marks_of g x y (40 * (row + 1)) }
+    ensures { (g : List ℕ) → heard.now ≡ counts_of g → marks ≡ marks_of g x y (40 * row) → result ≡ marks_of g x y (40 * (row + 1)) }
 {
     let cy = 2 * (row as u32) + 1;
     if y < cy {
@@ -143,7 +143,7 @@ fn row_marks(heard: &[u32; 1601], marks: [bool; 8], x: u32, y: u32, row: usize) 
 // The sectors of the cells around a place: a cell's centre, or the site.
 pub fn marks_around(heard: &[u32; 1601], x: u32, y: u32) -> [bool; 8]
     requires { (x < 80) × (y < 80) × (x % 2 ≡ y % 2) }
-    ensures { (g : List ℕ) → heard.now ≡ counts_of_lem g → result ≡ marks_of g x y 1600 }
+    ensures { (g : List ℕ) → heard.now ≡ counts_of g → result ≡ marks_of g x y 1600 }
 {
     let mut m = [false; 8];
     let mut row = centres_under(plane::less(y, 10));
@@ -158,8 +158,8 @@ pub fn marks_around(heard: &[u32; 1601], x: u32, y: u32) -> [bool; 8]
 
 // How many cells of a row lie around a place.
 fn row_cells(heard: &[u32; 1601], x: u32, y: u32, row: usize) -> u32
-    requires { ((g : List ℕ) × (heard.now ≡ counts_of_lem g)) × (x < 80) × (y < 80) × (row < 40) × (apart (2 * row + 1) y ≤ 10) }
-    ensures { ((g : List ℕ) → heard.now ≡ counts_of_lem g → how_many (near g x y) (40 * row) + result ≡ how_many (near g x y) (40 * (row + 1))) × (result ≤ 40) }
+    requires { ((g : List ℕ) × (heard.now ≡ counts_of g)) × (x < 80) × (y < 80) × (row < 40) × (apart (2 * row + 1) y ≤ 10) }
+    ensures { ((g : List ℕ) → heard.now ≡ counts_of g → how_many (near g x y) (40 * row) + result ≡ how_many (near g x y) (40 * (row + 1))) × (result ≤ 40) }
 {
     let h = reach(plane::between(2 * (row as u32) + 1, y));
     let from = heard[cut(row, plane::less(x, h))];
@@ -169,8 +169,8 @@ fn row_cells(heard: &[u32; 1601], x: u32, y: u32, row: usize) -> u32
 
 // How many cells lie around a place.
 pub fn cells_around(heard: &[u32; 1601], x: u32, y: u32) -> u32
-    requires { ((g : List ℕ) × (heard.now ≡ counts_of_lem g)) × (x < 80) × (y < 80) }
-    ensures { (g : List ℕ) → heard.now ≡ counts_of_lem g → result ≡ how_many (near g x y) 1600 }
+    requires { ((g : List ℕ) × (heard.now ≡ counts_of g)) × (x < 80) × (y < 80) }
+    ensures { (g : List ℕ) → heard.now ≡ counts_of g → result ≡ how_many (near g x y) 1600 }
 {
     let mut n: u32 = 0;
     let mut row = centres_under(plane::less(y, 10));

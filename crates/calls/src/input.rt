@@ -2,7 +2,7 @@
 ghost use Rattle.std.specs.Prelude.{◌≡◌, ◌≤◌, length};
 ghost use Rattle.lines.specs.Lines.{Within};
 ghost use Rattle.lending.specs.Lendings.{Room};
-ghost use Rattle.calls.specs.Inputs.{Lent, Came, number_of, room_of_lem, Answered, Stepped};
+ghost use Rattle.calls.specs.Inputs.{Lent, Came, number_of, room_of, Answered, Stepped};
 
 use answers::{Reply, Told};
 use grammar::Said;
@@ -31,7 +31,7 @@ pub struct After {
 
 // Writes the waiting answers where the buffer has little room left.
 fn room(out: &[u8], n: usize) -> usize
-    ensures { result ≡ room_of_lem n }
+    ensures { result ≡ room_of n }
 {
     if n > 61000 {
         io::write_all(STDOUT_FILENO, fields::part(out, 0, n));

@@ -1,7 +1,7 @@
 // A list of calls, taken apart: a line's text, its fields, its words. Nothing here knows a call.
 #![tactic(auto)]
 ghost use Rattle.std.specs.Prelude.{◌≡◌, ◌≤◌, ◌-◌, length};
-ghost use Rattle.fields.specs.Text.{first_of, back_over, text_end, field_at, part_of, same_bytes_lem, shown_of, moved_to};
+ghost use Rattle.fields.specs.Text.{first_of, back_over, text_end, field_at, part_of, same_bytes, shown_of, moved_to};
 
 // What stands at a place of a text: a field, a separator that separates nothing, or no more.
 #[derive(Clone, Copy)]
@@ -93,7 +93,7 @@ pub fn part(s: &[u8], start: usize, end: usize) -> &[u8]
 
 // Whether two slices hold the same bytes.
 pub fn same(s: &[u8], word: &[u8]) -> bool
-    ensures { result ≡ same_bytes_lem s.now word.now }
+    ensures { result ≡ same_bytes s.now word.now }
 {
     if s.len() != word.len() {
         return false;

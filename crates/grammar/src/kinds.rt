@@ -1,7 +1,7 @@
 // The calls by their words, and one reader for each.
 ghost use Rattle.std.specs.Prelude.{◌≡◌};
-ghost use Rattle.grammar.specs.Lines.{pick_of, which_single, which_call, which_lent, which_of, told_by, saying, bare_line, key_line, watch_line, claim_line, position_line, judging_line, turn_line, place_line, same_line_lem, horizon_line, bucket_line, bit_line, lend_line, row_line, cell_line, ends_line, line_by};
-ghost use Rattle.readers.specs.Fields.{ended_at_lem};
+ghost use Rattle.grammar.specs.Lines.{pick_of, which_single, which_call, which_lent, which_of, told_by, saying, bare_line, key_line, watch_line, claim_line, position_line, judging_line, turn_line, place_line, same_line, horizon_line, bucket_line, bit_line, lend_line, row_line, cell_line, ends_line, line_by};
+ghost use Rattle.readers.specs.Fields.{ended_at};
 
 use crate::{Call, Line, Said};
 use heard::Position;
@@ -95,7 +95,7 @@ fn told(p: Place, line: Line) -> Line
 
 // The same of a line that names no key, whose last field was read.
 fn closed(t: &[u8], p: Place, last: Name, line: Line) -> Said
-    ensures { result ≡ saying (told_by (ended_at_lem t.now p last) line) }
+    ensures { result ≡ saying (told_by (ended_at t.now p last) line) }
 {
     let e = readers::ended(t, p, last);
     crate::say(told(e, line))
@@ -238,7 +238,7 @@ fn place_line(t: &[u8], p: Place) -> Said
 }
 
 fn same_line(t: &[u8], p: Place) -> Said
-    ensures { result ≡ same_line_lem t.now p }
+    ensures { result ≡ same_line t.now p }
 {
     let x = readers::four_at(t, p);
     let q = x.place;

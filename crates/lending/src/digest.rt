@@ -1,10 +1,10 @@
 // The digest of a watch, word by word.
 ghost use Rattle.std.specs.Prelude.{◌≡◌, [], ◌∷◌, map, length};
-ghost use Rattle.rows.specs.Read.{row_is_lem, ends_is, watch_is};
+ghost use Rattle.rows.specs.Read.{row_is, ends_is, watch_is};
 ghost use Rattle.flat.specs.Words.{heard_words};
 ghost use Rattle.flat.specs.Table.{rows_of};
 ghost use Rattle.lending.specs.Digests as digests;
-ghost use Rattle.lending.specs.Digests.{mixed, mixed_all, link_word, distance_of, verdict_six, row_words_lem, rows_words, ends_words, first_hash, digest_of};
+ghost use Rattle.lending.specs.Digests.{mixed, mixed_all, link_word, distance_of, verdict_six, row_words, rows_words, ends_words, first_hash, digest_of};
 ghost use Rattle.lending.specs.Lendings.{Within, lent_to};
 ghost use Rattle.packing.specs.Words.{key_words, altitude_words, site_words, id_words};
 
@@ -141,7 +141,7 @@ fn mix_verdict(h: u64, j: Judged) -> u64
 }
 
 fn mix_row(h: u64, row: Row) -> u64
-    ensures { result ≡ mixed_all h (row_words_lem (row_is_lem row)) }
+    ensures { result ≡ mixed_all h (row_words (row_is row)) }
 {
     let part = row.part;
     let key = row.key;
@@ -158,7 +158,7 @@ fn mix_row(h: u64, row: Row) -> u64
 
 fn mix_rows(h: u64, rows: &[u64], n: u32) -> u64
     requires { n ≡ length (rows_of rows.now) }
-    ensures { result ≡ mixed_all h (rows_words (map row_is_lem (rows_of rows.now))) }
+    ensures { result ≡ mixed_all h (rows_words (map row_is (rows_of rows.now))) }
 {
     let mut g = h;
     let mut i: u32 = 0;

@@ -5,7 +5,7 @@ ghost use Rattle.std.specs.Prelude.{◌≡◌, false, ◌+◌, ◌*◌, ◌≤�
 ghost use Rattle.heard.specs.Heard.{width};
 ghost use Rattle.heard.specs.Answers.{HearingFits};
 ghost use Rattle.rows.specs.Read.{ends_is, ends_of};
-ghost use Rattle.moves.specs.Answers.{no_key_lem, saying, freeing, check_answer, claim_answer, hear_no};
+ghost use Rattle.moves.specs.Answers.{no_key, saying, freeing, check_answer, claim_answer, hear_no};
 ghost use Rattle.moves.specs.Moves.{staying, clear_of, seat_move, counted_at, oldest_look};
 ghost use Rattle.scans.specs.Scan.{number_of};
 ghost use Rattle.bodies.specs.Bodies.{is_unheard, RoomAt, emptied_at};
@@ -56,7 +56,7 @@ pub fn keep(ends: &mut [u32; 3], e: Ends)
 // ---- answers
 
 pub fn zero_key() -> Key
-    ensures { result ≡ no_key_lem }
+    ensures { result ≡ no_key }
 {
     Key { bytes: [0u8; 32] }
 }

@@ -4,7 +4,7 @@ ghost use Rattle.cells.specs.Passes.{how_many, sum_of};
 ghost use Rattle.cells.specs.Cells.{occupied_word};
 ghost use Rattle.plane.specs.Plane.{east_of, north_of, from_site};
 ghost use Rattle.around.specs.Marks.{occ};
-ghost use Rattle.around.specs.Counts.{counts_of_lem};
+ghost use Rattle.around.specs.Counts.{counts_of};
 ghost use Rattle.near_field.specs.Near.{cells_within, no_hole, found, cells_around, best_of, member, members, mean_square, found_of, near_field_by, near_field};
 
 use super::{Evidence, Judgment};
@@ -59,7 +59,7 @@ pub fn no_hole(grid: &[u32; 1600]) -> bool
 
 // The cells around a found cell, and 0 for any other.
 fn found_cells(grid: &[u32; 1600], heard: &[u32; 1601], i: usize) -> u32
-    requires { (i < 1600) × (heard.now ≡ counts_of_lem grid.now) }
+    requires { (i < 1600) × (heard.now ≡ counts_of grid.now) }
     ensures { result ≡ cond (found grid.now i) (cells_around grid.now i) 0 }
 {
     if !cells::occupied(grid[i]) {
@@ -95,7 +95,7 @@ fn or_better(b: Best, i: usize, n: u32) -> Best
 
 // The found cell with most cells around, the first of those; 1,600 where none is found.
 fn best_cell(grid: &[u32; 1600], heard: &[u32; 1601]) -> usize
-    requires { heard.now ≡ counts_of_lem grid.now }
+    requires { heard.now ≡ counts_of grid.now }
     ensures { result ≡ best_of grid.now 1600 }
 {
     let mut b = Best { at: 1600, cells: 0 };
@@ -109,7 +109,7 @@ fn best_cell(grid: &[u32; 1600], heard: &[u32; 1601]) -> usize
 
 // Whether a cell is found, and within 25 km of the best.
 fn is_member(grid: &[u32; 1600], heard: &[u32; 1601], best: usize, i: usize) -> bool
-    requires { (best < 1600) × (i < 1600) × (heard.now ≡ counts_of_lem grid.now) }
+    requires { (best < 1600) × (i < 1600) × (heard.now ≡ counts_of grid.now) }
     ensures { result ≡ member grid.now best i }
 {
     let d = plane::distance(
@@ -133,7 +133,7 @@ struct Group {
 }
 
 fn group_of(grid: &[u32; 1600], heard: &[u32; 1601], best: usize) -> Group
-    requires { (best < 1600) × (heard.now ≡ counts_of_lem grid.now) }
+    requires { (best < 1600) × (heard.now ≡ counts_of grid.now) }
     ensures { (result.cells ≡ members grid.now best) × (result.east ≡ sum_of (member grid.now best) east_of 1600) × (result.north ≡ sum_of (member grid.now best) north_of 1600) × (result.cells ≤ 1600) × (result.east ≤ 126400) × (result.north ≤ 126400) }
 {
     let mut n: u32 = 0;
@@ -156,7 +156,7 @@ fn group_of(grid: &[u32; 1600], heard: &[u32; 1601], best: usize) -> Group
 
 // The judgment of the group around the best cell.
 fn found_at(grid: &[u32; 1600], heard: &[u32; 1601], best: usize, scale: u64) -> Judgment
-    requires { (best < 1600) × (scale ≤ 4) × (heard.now ≡ counts_of_lem grid.now) }
+    requires { (best < 1600) × (scale ≤ 4) × (heard.now ≡ counts_of grid.now) }
     ensures { result ≡ found_of scale grid.now best }
 {
     let g = group_of(grid, heard, best);

@@ -2,7 +2,7 @@
 // The kinds of lines stand above, in `grammar`.
 #![tactic(auto)]
 ghost use Rattle.std.specs.Prelude.{◌≡◌, ◌≤◌};
-ghost use Rattle.readers.specs.Fields.{start_at, failed_at, moved_to, piece_at, bytes_of, whole_at, maybe_at, feet_at, altitude_at, real_at, key_at, ended_at_lem, is_dash, small_at, byte_at, epoch_at, link_at, distance_at, last_of, two_at, four_at, site_fields, claim_at, parts_of, back_to, site_parts, site_at, runs_at, verdict_parts, verdict_at, heard_at, part_at, links_at, clock_field, clock_at};
+ghost use Rattle.readers.specs.Fields.{start_at, failed_at, moved_to, piece_at, bytes_of, whole_at, maybe_at, feet_at, altitude_at, real_at, key_at, ended_at, is_dash, small_at, byte_at, epoch_at, link_at, distance_at, last_of, two_at, four_at, site_fields, claim_at, parts_of, back_to, site_parts, site_at, runs_at, verdict_parts, verdict_at, heard_at, part_at, links_at, clock_field, clock_at};
 
 use cells::Height;
 use fields::Field;
@@ -402,7 +402,7 @@ pub fn key_at(t: &[u8], p: Place) -> Named
 
 // Nothing follows the last field.
 pub fn ended(t: &[u8], p: Place, last: Name) -> Place
-    ensures { result ≡ ended_at_lem t.now p last }
+    ensures { result ≡ ended_at t.now p last }
 {
     match fields::next_field(t, p.at, p.sep) {
         Field::At {

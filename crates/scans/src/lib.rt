@@ -4,7 +4,7 @@ ghost use Rattle.std.specs.Prelude.{◌≡◌, true, false, cond, not, ◌&&◌,
 ghost use Rattle.table.specs.Machine.{same};
 ghost use Rattle.table.specs.Rows.{NONE};
 ghost use Rattle.scans.specs.Ends.{out_ends, linked_ends, with_free, fresh_ends};
-ghost use Rattle.scans.specs.Scan.{back_fits_lem, first_found, more_of, start_of, came_through, chains_of, found_at, look_of, is_no, is_unfit, at_of, number_of};
+ghost use Rattle.scans.specs.Scan.{back_fits, first_found, more_of, start_of, came_through, chains_of, found_at, look_of, is_no, is_unfit, at_of, number_of};
 
 #[derive(Clone, Copy)]
 pub struct Key {
@@ -173,7 +173,7 @@ pub fn both(a: bool, b: bool) -> bool
 }
 
 pub fn back_fits(b: bool, x: u32, p: u32) -> bool
-    ensures { result ≡ back_fits_lem b x p }
+    ensures { result ≡ back_fits b x p }
 {
     if b { x == p } else { true }
 }

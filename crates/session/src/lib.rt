@@ -6,7 +6,7 @@ pub mod single;
 ghost use Rattle.std.specs.Prelude.{◌≡◌, ◌≤◌};
 ghost use Rattle.lending.specs.Digests.{digest_of};
 ghost use Rattle.lending.specs.Lendings.{Within, lent_to, Room};
-ghost use Rattle.session.specs.Watches.{no_key_lem, plainly, sized_of, Opened, Answers, reply_for, Written, view_of, Ran};
+ghost use Rattle.session.specs.Watches.{no_key, plainly, sized_of, Opened, Answers, reply_for, Written, view_of, Ran};
 
 use answers::{Reply, Told};
 use grammar::{Call, Line, Said};
@@ -16,7 +16,7 @@ use readers::Fault;
 use scans::Key;
 
 fn no_key() -> Key
-    ensures { result ≡ no_key_lem }
+    ensures { result ≡ no_key }
 {
     Key { bytes: [0u8; 32] }
 }

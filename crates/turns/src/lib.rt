@@ -7,7 +7,7 @@ ghost use Rattle.std.proofs.lemmas.List.Edits.{sets};
 ghost use Rattle.table.specs.Questions.{chain};
 ghost use Rattle.receiver.specs.Calls.{unmade_part};
 ghost use Rattle.rows.specs.Links.{blank};
-ghost use Rattle.rows.specs.Read.{form, row_is_lem, ends_of, ends_is, watch_is};
+ghost use Rattle.rows.specs.Read.{form, row_is, ends_of, ends_is, watch_is};
 ghost use Rattle.flat.specs.Table.{rows_of};
 ghost use Rattle.turns.specs.Turn.{start_of, following, question8, turn_on};
 ghost use Rattle.turns.specs.Passes.{mark_all, count_after, list_after, passed};
@@ -56,7 +56,7 @@ pub fn may_turn(n: usize, k: u32, bytes: usize) -> bool
 // The rows of the used chain are marked.
 fn mark_used(rows: &[u64], n: usize, head: u32, marks: &mut [bool; 4096])
     requires { (n ≡ length (rows_of rows.now)) × (n ≤ 4096) }
-    ensures { (used : List ℕ) → chain unmade_part (map row_is_lem (rows_of rows.now)) n head ≡ some used → marks.new ≡ mark_all used marks.old }
+    ensures { (used : List ℕ) → chain unmade_part (map row_is (rows_of rows.now)) n head ≡ some used → marks.new ≡ mark_all used marks.old }
 {
     let mut at = head;
     let mut left = n;

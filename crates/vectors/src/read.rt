@@ -1,6 +1,6 @@
 // The words of a line, and what a vector's words say.
 ghost use Rattle.std.specs.Prelude.{◌≡◌, ◌&&◌, length};
-ghost use Rattle.vectors.specs.Lines.{first_word, rest_words, word_of, ended_at_lem, whole_in, metres_in, row_of, readable_row};
+ghost use Rattle.vectors.specs.Lines.{first_word, rest_words, word_of, ended_at, whole_in, metres_in, row_of, readable_row};
 
 use numbers::{Number, Signed};
 
@@ -58,7 +58,7 @@ pub fn word(t: &[u8], k: usize) -> &[u8]
 
 // Whether a line has no word k.
 pub fn ended(t: &[u8], k: usize) -> bool
-    ensures { result ≡ ended_at_lem k t.now }
+    ensures { result ≡ ended_at k t.now }
 {
     word(t, k).len() == 0
 }

@@ -1,7 +1,7 @@
 // The list, line by line: a cell is set, a row is judged and its answer compared, what was counted is printed.
 ghost use Rattle.std.specs.Prelude.{◌≡◌, Bool, length};
 ghost use Rattle.lines.specs.Lines.{Within};
-ghost use Rattle.vectors.specs.Replays.{no_cells_lem, no_counts, unread_of, missed_by, compared_by, judged_by, with_cell, cell_after, judging_after, after, answered, Stepped};
+ghost use Rattle.vectors.specs.Replays.{no_cells, no_counts, unread_of, missed_by, compared_by, judged_by, with_cell, cell_after, judging_after, after, answered, Stepped};
 
 use crate::read::Row;
 use crate::{read, write};
@@ -29,7 +29,7 @@ pub struct State {
 }
 
 fn no_cells() -> [u32; 3344]
-    ensures { result ≡ no_cells_lem }
+    ensures { result ≡ no_cells }
 {
     let empty = cells::empty_word();
     let cells = [empty; 3344];
