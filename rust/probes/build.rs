@@ -1,4 +1,4 @@
-//! Finds the archive of the functions that only the comparison calls (`rt staticlib probes`), and
+//! Finds the archive of the functions that only the comparison calls (`tools/build probes`), and
 //! which of them it has.
 
 use std::path::PathBuf;
@@ -13,7 +13,7 @@ fn main() {
     println!("cargo::rerun-if-changed={}", archive.display());
     let Ok(bytes) = fs::read(&archive) else {
         eprintln!(
-            "{} is not there. Run `rt staticlib probes` at the repository's root, or let SITING_LIB_DIR name its folder.",
+            "{} is not there. Run `tools/build probes` at the repository's root, or let SITING_LIB_DIR name its folder.",
             archive.display()
         );
         process::exit(1);

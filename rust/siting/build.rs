@@ -1,4 +1,4 @@
-//! Finds the archive of the proved functions, or makes it: `rt staticlib siting` at the
+//! Finds the archive of the proved functions, or makes it: `tools/build siting` at the
 //! repository's root.
 
 use std::env;
@@ -20,29 +20,29 @@ fn make(root: &Path, archive: &Path) {
         missing(&[
             &there,
             "and this crate does not stand in its repository, which could make it.",
-            "Let SITING_LIB_DIR name the folder of a libsiting.a that `rt staticlib siting` made there.",
+            "Let SITING_LIB_DIR name the folder of a libsiting.a that `tools/build siting` made there.",
         ]);
     }
-    let made = Command::new("rt")
-        .args(["staticlib", "siting"])
+    let made = Command::new("tools/build")
+        .arg("siting")
         .current_dir(root)
         .status();
     match made {
         Ok(status) if status.success() && archive.is_file() => {
-            println!("cargo::warning=libsiting.a was not there: `rt staticlib siting` has made it");
+            println!("cargo::warning=libsiting.a was not there: `tools/build siting` has made it");
         }
         Ok(status) => missing(&[
             &there,
-            &format!("and `rt staticlib siting` did not make it ({status})."),
+            &format!("and `tools/build siting` did not make it ({status})."),
             &format!(
-                "See what it says: cd {} && rt staticlib siting",
+                "See what it says: cd {} && tools/build siting",
                 root.display()
             ),
         ]),
         Err(wrong) => missing(&[
             &there,
-            &format!("and `rt`, Rattle's command, which makes it, cannot be run ({wrong})."),
-            "Put the kit's bin folder on the PATH, or let SITING_LIB_DIR name the folder of a libsiting.a.",
+            &format!("and `tools/build`, which makes it, cannot be run ({wrong})."),
+            "Let SITING_LIB_DIR name the folder of a libsiting.a.",
         ]),
     }
 }

@@ -5,7 +5,7 @@ use std::path::PathBuf;
 use std::process::{Child, Command, Stdio};
 use std::thread::{JoinHandle, spawn};
 
-/// Where the program is: SITING_CALLS, or what `rt check calls` leaves.
+/// Where the program is: SITING_CALLS, or what `tools/build calls` leaves.
 pub fn path() -> PathBuf {
     let built = concat!(env!("CARGO_MANIFEST_DIR"), "/../../target/bin/calls");
     std::env::var("SITING_CALLS")
