@@ -1,6 +1,7 @@
 // What a call does to the body of one row: the part that it gets, by value, and its cells in those of all rows. Crate `moves` decides the answer, the ends
 // and which row's cells become empty.
 #![tactic(auto)]
+
 ghost use Rattle.std.specs.Prelude.{◌≡◌, true, false, cond, List, ℕ, ◌+◌, ◌*◌, ◌≤◌, length, take, drop, replicate};
 ghost use Rattle.std.proofs.lemmas.List.Edits.{sets};
 ghost use Rattle.cells.specs.Cells.{empty_word};

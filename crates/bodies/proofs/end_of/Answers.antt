@@ -1,0 +1,5 @@
+use Rattle.bodies.proofs.Laws.{ends_at}
+use Rattle.bodies.proofs.end_of.Goals as goal
+
+pub returns : goal.returns
+returns c = ends_at c.args.i

@@ -1,0 +1,5 @@
+use Rattle.bodies.proofs.Laws.{starts_at}
+use Rattle.bodies.proofs.start_of.Goals as goal
+
+pub returns : goal.returns
+returns c = starts_at c.args.i
