@@ -26,7 +26,7 @@ use Rattle.receiver.specs.declared.Part.{Part}
 use Rattle.heard.specs.Heard.{width}
 use Rattle.receiver.specs.Calls.{unmade_part}
 use Rattle.rows.specs.declared.Row.{Row}
-use Rattle.rows.specs.Read.{form, fits, row_is, watch_of, found_is, looked_in, Looked}
+use Rattle.rows.specs.Read.{form, fits, row_is, watch_of, found_is, Looked}
 use Rattle.rows.specs.Links.{blank}
 use Rattle.rows.specs.Search.{scan_for, scanned, sizes_of}
 use Rattle.rows.proofs.Chains.{rows_long_lem, row_is_lem}

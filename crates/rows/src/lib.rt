@@ -1,6 +1,7 @@
 // The rows of a lent watch in their order of use: a chain of used rows, the least recently used first, and a chain of free rows. Here are
 // the row and the steps on it, by value; crate `scans` has the chains' ends, crates `records` and `lent` read rows from what is lent and store them there.
 #![tactic(auto)]
+
 ghost use Rattle.std.specs.Prelude.{◌≡◌};
 ghost use Rattle.rows.specs.Read.{fits};
 ghost use Rattle.rows.specs.Links.{blank, unmade, with_next, with_prev, with_links, with_part, made_row, kept_seat, made_seat, fresh_of};
