@@ -1,5 +1,6 @@
 // Around a place of the grid: the sectors, the aircraft bits and the cells within 25 km.
 #![tactic(auto)]
+
 ghost use Rattle.std.specs.Prelude.{◌≡◌, ◌%◌, ◌≤◌, ◌<◌};
 ghost use Rattle.around.specs.Marks.{around_of, sectors_in};
 

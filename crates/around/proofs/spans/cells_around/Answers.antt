@@ -1,0 +1,21 @@
+-- The rows left out hold no cell within 25 km.
+use Rattle.std.proofs.Common.{◌≡◌, ℕ, ◌+◌, ap, ◌∙◌, arith}
+use Rattle.around.specs.Counts.{under}
+use Rattle.around.proofs.Window.{cells_start, cells_end}
+use Rattle.around.proofs.spans.cells_around.Goals as goal
+
+pub loop-row-init : goal.loop-row-init
+loop-row-init c = (
+  omega arith,
+  omega arith,
+  c.centres_under-end.ensures.0,
+  λ g eh. cells_start g c.args.x c.args.y c.centres_under-row.result c.requires.2
+      (c.centres_under-row.ensures.0 ∙ ap (λ (z : ℕ). under z) c.less.ensures.0),
+  omega arith,
+)
+
+pub returns : goal.returns
+returns c =
+    let l = c.loop-row in
+    let e : l.row ≡ under (c.args.y + 11) = omega arith in
+    λ g eh. l.invariant.3 g eh ∙ cells_end g c.args.x c.args.y l.row c.requires.2 e

@@ -1,0 +1,29 @@
+-- As `bits_around`; bits never go (`ones_grow`), so eight before the last row are eight at the end.
+use Rattle.std.proofs.Common.{◌≡◌, ℕ, ◌+◌, ◌*◌, ap, ◌∙◌, arith}
+use Rattle.around.specs.Marks.{near}
+use Rattle.around.specs.Counts.{under}
+use Rattle.around.proofs.Window.{bits_start, bits_end, ones_zero, enough, not_enough}
+use Rattle.around.proofs.spans.enough_bits.Goals as goal
+
+pub loop-row-init : goal.loop-row-init
+loop-row-init c = (
+  omega arith,
+  omega arith,
+  c.centres_under-end.ensures.0,
+  bits_start c.args.grid.now c.args.x c.args.y c.centres_under-row.result c.requires.1
+      (c.centres_under-row.ensures.0 ∙ ap (λ (z : ℕ). under z) c.less.ensures.0),
+  omega (arith, ones_zero),
+)
+
+pub returns-then-bits-ge8 : goal.returns-then-bits-ge8
+returns-then-bits-ge8 c =
+    let s = c.args in
+    enough (near s.grid.now s.x s.y) s.grid.now (40 * (c.loop-row.row + 1)) c.row_bits-bits.result (omega arith)
+    c.row_bits-bits.ensures c.if-bits-ge8.true
+
+pub returns : goal.returns
+returns c =
+    let l = c.loop-row in
+    let s = c.args in
+    let e : l.row ≡ under (s.y + 11) = omega arith in
+    not_enough (near s.grid.now s.x s.y) s.grid.now l.bits (l.invariant.3 ∙ bits_end s.grid.now s.x s.y l.row c.requires.1 e) l.invariant.4

@@ -1,0 +1,48 @@
+-- West and east of the reach no cell is within 25 km; between, a cell is around the place where it is occupied.
+use Rattle.std.proofs.Common.{◌≡◌, ℕ, ◌+◌, ◌-◌, ◌*◌, refl, sym, ap, ◌∙◌, arith}
+use Rattle.around.specs.Marks.{near, bits_in}
+use Rattle.around.specs.Counts.{cut_at}
+use Rattle.around.proofs.Rows.{west_off, east_off, within, cut_mono, cut_start, cut_end}
+use Rattle.around.proofs.Window.{bits_skip, bits_step}
+use Rattle.around.proofs.spans.row_bits.Goals as goal
+
+pub loop-i-init : goal.loop-i-init
+loop-i-init c =
+    let s = c.args in
+    let g = s.grid.now in
+    let h = c.reach-h.result in
+    let ei : c.cut-i.result ≡ cut_at s.row (s.x - h) = c.cut-i.ensures.0 ∙ ap (cut_at s.row) c.less.ensures.0 in (
+      omega (arith, cut_mono s.row (s.x - h) (s.x + h + 1) (omega arith)),
+      c.cut-end.ensures.0,
+      omega arith,
+      omega arith,
+      c.requires.4
+          ∙ bits_skip (near g s.x s.y) g (40 * s.row) (cut_at s.row (s.x - h)) (cut_start s.row (s.x - h))
+          (west_off g s.x s.y s.row c.between.result h c.requires.0 c.requires.2 c.between.ensures c.reach-h.ensures)
+          ∙ ap (λ (k : ℕ). bits_in (near g s.x s.y) g k) (sym ei),
+    )
+
+pub loop-i-preserved : goal.loop-i-preserved
+loop-i-preserved c =
+    let l = c.loop-i in
+    let s = c.args in
+    let g = s.grid.now in (
+      omega arith,
+      l.invariant.1,
+      l.invariant.2,
+      omega arith,
+      bits_step (near g s.x s.y) g l.i l.out _ c.or_bits-out.result
+          (within g s.x s.y s.row c.between.result c.reach-h.result c.requires.0 c.requires.2 c.between.ensures c.reach-h.ensures l.i l.invariant.3 (omega arith))
+          l.invariant.4 refl c.or_bits-out.ensures,
+    )
+
+pub returns : goal.returns
+returns c =
+    let l = c.loop-i in
+    let s = c.args in
+    let g = s.grid.now in
+    let h = c.reach-h.result in
+    let e : l.i ≡ cut_at s.row (s.x + h + 1) = omega arith in
+    l.invariant.4 ∙ ap (λ (k : ℕ). bits_in (near g s.x s.y) g k) e
+    ∙ bits_skip (near g s.x s.y) g (cut_at s.row (s.x + h + 1)) (40 * (s.row + 1)) (cut_end s.row (s.x + h + 1))
+    (east_off g s.x s.y s.row c.between.result h c.requires.0 c.requires.2 c.between.ensures c.reach-h.ensures)

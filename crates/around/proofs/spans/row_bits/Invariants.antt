@@ -1,0 +1,13 @@
+-- Up to cell i the bits are those of the cells around; the cells from the reach's west end up to its east end are looked at.
+use Rattle.std.proofs.Common.{◌-◌, ◌≡◌, ◌+◌, ◌≤◌}
+use Rattle.around.specs.Marks.{bits_in, near}
+use Rattle.around.specs.Counts.{cut_at}
+use Rattle.around.proofs.spans.row_bits.Given as goal
+
+abbrev pub invariant-loop-i : goal.invariant-loop-i
+invariant-loop-i l =
+    (l.i ≤ l.end) × (l.end ≡ cut_at l.row (l.x + l.h + 1)) × (l.end ≤ 1600) × (cut_at l.row (l.x - l.h) ≤ l.i)
+    × (l.out ≡ bits_in (near l.grid l.x l.y) l.grid l.i)
+
+abbrev pub decreases-loop-i : goal.decreases-loop-i
+decreases-loop-i l = l.end - l.i
