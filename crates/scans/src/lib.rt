@@ -1,5 +1,6 @@
 // The two chains of a watch by row numbers alone: their ends, and a scan along a chain, as far as neither asks what a row holds. Crate `rows` adds the row.
 #![tactic(auto)]
+
 ghost use Rattle.std.specs.Prelude.{◌≡◌, true, false, cond, not, ◌&&◌, ◌||◌, ◌+◌, ◌-◌, eqb};
 ghost use Rattle.table.specs.Machine.{same};
 ghost use Rattle.table.specs.Rows.{NONE};
@@ -21,12 +22,14 @@ pub struct Ends {
 
 // ---- numbers of rows
 
+#[tactic(auto, unfolding(table::specs::Rows::NONE))]
 pub fn no_row() -> u32
     ensures { result ≡ NONE }
 {
     4294967295
 }
 
+#[tactic(auto, unfolding(table::specs::Rows::NONE))]
 pub fn is_none(x: u32) -> bool
     ensures { result ≡ eqb x NONE }
 {
@@ -153,6 +156,7 @@ pub fn more(s: Cursor, n: usize) -> bool
     false
 }
 
+#[tactic(auto, using(crate::proofs::Laws::sames_begin, crate::proofs::Laws::sames_differ, crate::proofs::Laws::sames_go, crate::proofs::Laws::sames_end))]
 pub fn same_key(a: [u8; 32], b: [u8; 32]) -> bool
     ensures { result ≡ same a b }
 {
@@ -324,6 +328,7 @@ pub fn unfit(l: Look) -> bool
     }
 }
 
+#[tactic(auto, unfolding(table::specs::Rows::NONE))]
 pub fn at_of(l: Look) -> u32
     ensures { result ≡ at_of l }
 {
