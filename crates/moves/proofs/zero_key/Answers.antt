@@ -1,0 +1,7 @@
+use Rattle.std.proofs.Common.{refl}
+use Rattle.table.specs.Rows.{zero_key}
+use Rattle.moves.proofs.zero_key.Goals as goal
+
+pub returns : goal.returns
+unfolding zero_key
+returns c = refl
