@@ -1,6 +1,7 @@
 // The correctly rounded square root of an f64. A guess in floats is tested, and set right by one, in whole numbers; what the test
 // does not pass is found in whole numbers alone.
 #![tactic(auto)]
+
 ghost use Rattle.std.specs.Prelude.{◌≡◌, ℕ, ◌+◌, ◌*◌, ◌/◌, ◌%◌, ◌^◌, ◌<◌, ◌≤◌, true, T, if◌then◌else◌};
 ghost use Rattle.std.specs.Float.Ieee as Ieee;
 ghost use Rattle.std.specs.Float.{binary64};
