@@ -1,5 +1,6 @@
 // A list of calls, taken apart: a line's text, its fields, its words. Nothing here knows a call.
 #![tactic(auto)]
+
 ghost use Rattle.std.specs.Prelude.{◌≡◌, ◌≤◌, ◌-◌, length};
 ghost use Rattle.fields.specs.Text.{first_of, back_over, text_end, field_at, part_of, same_bytes, shown_of, moved_to};
 
