@@ -1,5 +1,6 @@
 // Outside: whether all that is heard, in the grid and past it, lies in at most 4 of the eight sectors seen from the site.
 #![tactic(auto)]
+
 ghost use Rattle.std.specs.Prelude.{◌≡◌, Bool, cond, true, ◌&&◌, ◌||◌, List, ℕ, ◌<◌, set};
 ghost use Rattle.cells.specs.Cells.{occupied_word};
 ghost use Rattle.cells.specs.Passes.{some, table};
