@@ -2,6 +2,7 @@
 // the slice and stored in it. Nothing here asks for anything: a link that is no row's number reads as the unmade row, and a store there
 // changes nothing. The three ends go in and out by value.
 #![tactic(auto)]
+
 ghost use Rattle.std.specs.Prelude.{◌≡◌, ◌<◌, leb, length, set, get_or};
 ghost use Rattle.rows.specs.Read.{Looked};
 ghost use Rattle.rows.specs.Links.{blank, nexted, preved, unlinked_rows, unlinked_ends, linked_rows, released_rows, released_ends, touched_rows, touched_ends, marked_rows, marked_ends, room_rows, room_ends, taken_rows, taken_ends, entered_rows, entered_ends, seat_of, seated_rows, fresh_from};
