@@ -5,7 +5,7 @@ use mathlib.Core.List.{List, [], ◌∷◌}
 use Prim.Native.Nat.{ℕ, ◌+◌, ◌≤◌}
 use native.Mathlib.Nat.{le_trans, le_of_lt}
 use native.Mathlib.Omega.{arith}
-use lib.Dec.{T, ltb, ltb→lt, nltb→le}
+use lib.Dec.{T, ltb→lt, nltb→le}
 use lib.Ieee.{Float, lt}
 use Rattle.root.specs.Root.{units_of}
 use Rattle.root.proofs.Units.{lt_units}

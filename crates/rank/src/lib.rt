@@ -1,5 +1,6 @@
 // One of some floats by its number in ascending order. They are not sorted: how many lie below each tells.
 #![tactic(auto)]
+
 ghost use Rattle.std.specs.Prelude.{◌≡◌, cond, ◌<◌, ◌≤◌, Float, get_or, length};
 ghost use Rattle.std.specs.Float.{nan};
 ghost use Rattle.std.specs.Float.Ieee.{lt};
