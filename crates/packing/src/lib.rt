@@ -1,6 +1,7 @@
 // The fields of a row as words of 64 bits: key, site, epoch id, clock and verdict, each stored at a place, tested there and read from there. Crate `flat`
 // puts them together to a row.
 #![tactic(auto)]
+
 ghost use Rattle.std.specs.Prelude.{◌≡◌, cond, ◌&&◌, [], ◌∷◌, ◌≤◌, ◌+◌, ◌%◌, T, leb, length, get_or, drop};
 ghost use Rattle.std.proofs.lemmas.List.Edits.{sets};
 ghost use Rattle.std.specs.Float.{binary64};

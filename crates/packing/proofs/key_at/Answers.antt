@@ -1,0 +1,7 @@
+-- `packing::key_at` meets its contract: each way out is a law that is cited below, at what the code found.
+use Rattle.packing.proofs.Keys.{key_opens}
+use Rattle.std.proofs.Common.{refl}
+use Rattle.packing.proofs.key_at.Goals as goal
+
+pub returns : goal.returns
+returns c = key_opens _ _ _ _ _ c.args.words.now refl c.put_bytes.ensures c.put_bytes-2.ensures c.put_bytes-3.ensures c.put_bytes-4.ensures

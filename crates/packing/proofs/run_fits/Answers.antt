@@ -1,0 +1,7 @@
+-- `packing::run_fits` meets its contract: each way out is a law that is cited below, at what the code found.
+use Rattle.packing.proofs.Opening.{run_fits_is}
+use Rattle.std.proofs.Common.{rules}
+use Rattle.packing.proofs.run_fits.Goals as goal
+
+pub returns : goal.returns
+returns c = search (run_fits_is, rules)

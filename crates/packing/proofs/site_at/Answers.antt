@@ -1,0 +1,12 @@
+-- `packing::site_at` meets its contract: each way out is a law that is cited below, at what the code found.
+use Rattle.packing.proofs.Opening.{absent, site_some}
+use Rattle.packing.specs.Words.{site_of}
+use Rattle.std.proofs.Common.{rules}
+use Rattle.packing.proofs.site_at.Goals as goal
+
+pub returns-then-words-at-eq0 : goal.returns-then-words-at-eq0
+unfolding site_of
+returns-then-words-at-eq0 c = search (absent, rules)
+
+pub returns : goal.returns
+returns c = search (site_some, rules)
