@@ -1,5 +1,5 @@
 -- A float from 1 up to below 2 ^ 53: its pattern's exponent is at most 1075, so that its digits are cut and never filled up. Assumes nothing.
-use Rattle.std.proofs.Common.{◌≡◌, ℕ, ◌+◌, ◌-◌, ◌*◌, ◌/◌, ◌^◌, ◌<◌, ◌≤◌, Bool, true, false, ◌||◌, T, pos, sym, refl, subst, le_trans, le_of_eq, lt_of_lt_of_le, div-lt_iff_lt-mul, mul-one, arith, ltb→lt, pow_pos, pow_mono, pow-add}
+use Rattle.std.proofs.Common.{◌≡◌, ℕ, ◌+◌, ◌-◌, ◌*◌, ◌/◌, ◌^◌, ◌<◌, ◌≤◌, Bool, true, false, ◌||◌, T, sym, refl, subst, le_trans, le_of_eq, lt_of_lt_of_le, div-lt_iff_lt-mul, mul-one, arith, ltb→lt, pow_pos, pow_mono, pow-add}
 use lib.Ieee.{Float, nan, inf, fin, binary64, up, down, size, lt, eq, le, fits, to_bits, to_unsigned}
 use lib.Ieee.Fits.{down_pos}
 use lib.Ieee.Digits.{size-lt, size-le}

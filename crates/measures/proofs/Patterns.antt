@@ -1,7 +1,7 @@
 -- A range test on the bits of a float: of the patterns of one sign the order is that of the numbers, and those of the infinity and the NaNs come behind all
 -- numbers. A pattern's number is (2 ^ 52 + t) * 2 ^ e of the format's smallest values where its fields are suc e and t, and t of them where the first is 0.
 -- Assumes nothing.
-use Rattle.std.proofs.Common.{◌≡◌, ℕ, zero, suc, ◌+◌, ◌-◌, ◌*◌, ◌/◌, ◌%◌, ◌^◌, ◌<◌, ◌≤◌, Bool, true, false, cond, not, T, eqb, ltb, leb, ◌⊎◌, sym, refl, ap, ◌∙◌, subst, inl, inr, le_trans, le_of_eq, lt_of_lt_of_le, le_of_lt, lt_irrefl, mul-le-mul_right, mod-lt, eq-or-lt_of_le, mul-le-mul_left, mul_right_comm, le_of_mul-le-mul_right, arith, le→leb, eqb→eq, ltb→lt, leb→le, nltb→le, pow_pos, pow_mono, pow-add}
+use Rattle.std.proofs.Common.{◌≡◌, ℕ, zero, suc, ◌+◌, ◌-◌, ◌*◌, ◌/◌, ◌%◌, ◌^◌, ◌<◌, ◌≤◌, Bool, true, false, cond, not, T, eqb, ltb, leb, ◌⊎◌, sym, refl, ap, ◌∙◌, subst, inl, inr, le_trans, le_of_eq, lt_of_lt_of_le, le_of_lt, lt_irrefl, mul-le-mul_right, mod-lt, eq-or-lt_of_le, mul-le-mul_left, mul_right_comm, le_of_mul-le-mul_right, arith, le→leb, eqb→eq, ltb→lt, leb→le, nltb→le, pow_pos, pow_mono}
 use native.Mathlib.Nat.{pow-succ'}
 use borrow.Author.Tests.{lt-leb}
 use lib.Ieee.{Float, nan, inf, fin, binary64, up, down, odd, of_fields, of_bits}

@@ -1,11 +1,10 @@
--- `degrees::bits_in_degrees` meets its contract: 90 has the fields 1029 and 26 * 2 ^ 46, 180 the next exponent and the same digits. Assumes nothing.
-use Rattle.std.proofs.Common.{◌≡◌, ℕ, ◌*◌, ◌%◌, ◌^◌, ◌<◌, ◌≤◌, Bool, false, ◌&&◌, leb, sym, refl, ap, ◌∙◌, ap₂, lit<, rules, le-leb}
+-- `bits_in_degrees`: 90 has the fields 1029 and 26 * 2 ^ 46, 180 the next exponent and the same digits.
+use Rattle.std.proofs.Common.{◌≡◌, ℕ, ◌*◌, ◌%◌, ◌^◌, ◌<◌, ◌≤◌, Bool, false, ◌&&◌, leb, sym, refl, ap, ◌∙◌, ap₂, lit<, le-leb}
 use lib.Ieee.{binary64, of_bits}
 use borrow.Author.Tests.{lt-leb}
 use Rattle.measures.specs.Degrees.{within, in_degrees}
 use Rattle.measures.proofs.Patterns.{bits_within}
-use Rattle.measures.proofs.degrees.bits_in_degrees.Statement.{statement}
-use Rattle.measures.proofs.degrees.bits_in_degrees.Tie as tie
+use Rattle.measures.proofs.degrees.bits_in_degrees.Goals as goal
 
 within_90 : (w : ℕ) → within 90 (of_bits binary64 w) ≡ leb (w % 2 ^ 63) 4636033603912859648
 within_90 w = bits_within 90 1028 (26 * 2 ^ 46) w (lit< tt, (lit< tt, refl))
@@ -20,11 +19,8 @@ module _ (lat lon : ℕ) where
   first_out : 4636033603912859648 < lat % 2 ^ 63 → false ≡ in_degrees (of_bits binary64 lat) (of_bits binary64 lon)
   first_out h = sym (ap (λ (b : Bool). b && within 180 (of_bits binary64 lon)) (within_90 lat ∙ lt-leb (lat % 2 ^ 63) 4636033603912859648 h))
 
-returns : tie.Need-returns
-returns c = search (first_in, rules)
+pub returns-then-lat-le4636033603912859648 : goal.returns-then-lat-le4636033603912859648
+returns-then-lat-le4636033603912859648 c = first_in c.args.lat c.args.lon c.if-lat-le4636033603912859648.true
 
-returns_2 : tie.Need-returns-2
-returns_2 c = search (first_out, rules)
-
-pub bits_in_degrees_spec : {M : Type 1} → statement M
-bits_in_degrees_spec = tie.close (tie.spec returns returns_2)
+pub returns-else-lat-le4636033603912859648 : goal.returns-else-lat-le4636033603912859648
+returns-else-lat-le4636033603912859648 c = first_out c.args.lat c.args.lon c.if-lat-le4636033603912859648.false
