@@ -4,7 +4,7 @@ use Rattle.std.specs.Int.Count.{ones}
 use Rattle.cells.specs.Passes.{pass, sum_of, how_many}
 use Rattle.near_field.specs.Sorted.{sorted, nth, those}
 use Rattle.plane.specs.Plane.{east_of, north_of, apart, square, dist, from_site, within25, said}
-use Rattle.around.specs.Marks.{occ, near, around_of, sectors_in}
+use Rattle.around.specs.Marks.{occ, around_of, sectors_in}
 use Rattle.near_field.specs.declared.Judgment.{Judgment}
 use Rattle.near_field.specs.declared.Judgment.TheVariants.{Unjudged, Fits, Wrong}
 use Rattle.near_field.specs.declared.Evidence.TheVariants.{NearField}

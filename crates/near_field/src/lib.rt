@@ -1,5 +1,6 @@
 // The near field: a judgment by what lies around the site, and around the places of the grid. Its words are those of every judging.
 #![tactic(auto)]
+
 pub mod near;
 
 // What a judging found.
