@@ -1,5 +1,5 @@
 -- Arguments and answers of the seven calls as numbers, since no enum crosses to C. Definitions only.
-use Rattle.std.specs.Prelude.{◌≡◌, ℕ, ℤ, pos, cond, List, [], ◌∷◌, eqb, Float}
+use Rattle.std.specs.Prelude.{◌≡◌, ℕ, ℤ, cond, List, [], ◌∷◌, eqb, Float}
 use Rattle.std.proofs.Math.Option.{Option, none, some}
 use Rattle.table.specs.Machine as M
 use Rattle.table.specs.Machine.{Step, refused, said}

@@ -1,6 +1,7 @@
 // Arguments and answers of the seven calls as numbers, since no enum crosses to C: an altitude, a site and feet by their tags, a key as four numbers, and
 // nine numbers for an answer.
 #![tactic(auto)]
+
 ghost use Rattle.std.specs.Prelude.{◌≡◌, cond};
 ghost use Rattle.std.proofs.Math.Option.{none, some};
 ghost use Rattle.moves.specs.Answers.{answer_is};
