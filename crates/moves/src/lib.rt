@@ -1,6 +1,7 @@
 // What a call decides, by value: the answer, the ends, and which row's cells become empty; the row's own part and cells are crate `bodies`'s. Crate `watch`
 // reads the rows from a slice of records and stores them there, crate `lent` from a slice of plain numbers; both come to the same through what is said here.
 #![tactic(auto)]
+
 ghost use Rattle.std.specs.Prelude.{◌≡◌, false, ◌+◌, ◌*◌, ◌≤◌, length};
 ghost use Rattle.heard.specs.Heard.{width};
 ghost use Rattle.heard.specs.Answers.{HearingFits};
