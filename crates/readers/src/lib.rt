@@ -1,6 +1,7 @@
 // The fields of a line, read in turn from a place in it: one field, or a group of them. Reading goes on behind a field that is wrong, and the first fault stays.
 // The kinds of lines stand above, in `grammar`.
 #![tactic(auto)]
+
 ghost use Rattle.std.specs.Prelude.{◌≡◌, ◌≤◌};
 ghost use Rattle.readers.specs.Fields.{start_at, failed_at, moved_to, piece_at, bytes_of, whole_at, maybe_at, feet_at, altitude_at, real_at, key_at, ended_at, is_dash, small_at, byte_at, epoch_at, link_at, distance_at, last_of, two_at, four_at, site_fields, claim_at, parts_of, back_to, site_parts, site_at, runs_at, verdict_parts, verdict_at, heard_at, part_at, links_at, clock_field, clock_at};
 
@@ -227,6 +228,7 @@ fn moved(p: Place, next: usize) -> Place
     }
 }
 
+#[tactic(auto, unfolding(crate::specs::Fields::piece_at))]
 fn piece_at(t: &[u8], p: Place, name: Name) -> Piece
     ensures { result ≡ piece_at t.now p name }
 {
@@ -256,6 +258,7 @@ fn bytes_of(t: &[u8], g: Piece) -> &[u8]
 }
 
 // A decimal number up to `most`.
+#[tactic(auto, using(numbers::proofs::Values::whole_within), unfolding(crate::specs::Fields::whole_at))]
 pub fn whole_at(t: &[u8], p: Place, most: u64, name: Name) -> Whole
     ensures { (result ≡ whole_at t.now p most name) × (result.n ≤ most) }
 {
@@ -270,6 +273,7 @@ pub fn whole_at(t: &[u8], p: Place, most: u64, name: Name) -> Whole
     }
 }
 
+#[tactic(auto, unfolding(crate::specs::Fields::small_at))]
 pub fn small_at(t: &[u8], p: Place, name: Name) -> Small
     ensures { result ≡ small_at t.now p name }
 {
@@ -281,6 +285,7 @@ pub fn small_at(t: &[u8], p: Place, name: Name) -> Small
     }
 }
 
+#[tactic(auto, unfolding(crate::specs::Fields::byte_at))]
 fn byte_at(t: &[u8], p: Place, name: Name) -> Byte
     ensures { result ≡ byte_at t.now p name }
 {
@@ -300,6 +305,7 @@ fn is_dash(s: &[u8]) -> bool
 }
 
 // A decimal number up to `most`, or none.
+#[tactic(auto, unfolding(crate::specs::Fields::maybe_at))]
 pub fn maybe_at(t: &[u8], p: Place, most: u64, name: Name) -> Maybe
     ensures { (result ≡ maybe_at t.now p most name) × (result.n ≤ most) }
 {
@@ -322,6 +328,7 @@ pub fn maybe_at(t: &[u8], p: Place, most: u64, name: Name) -> Maybe
 }
 
 // A decimal i32, or none: an altitude in feet, and one in metres.
+#[tactic(auto, unfolding(crate::specs::Fields::feet_at))]
 pub fn feet_at(t: &[u8], p: Place) -> FeetHeld
     ensures { result ≡ feet_at t.now p }
 {
@@ -346,6 +353,7 @@ pub fn feet_at(t: &[u8], p: Place) -> FeetHeld
     }
 }
 
+#[tactic(auto, unfolding(crate::specs::Fields::altitude_at))]
 fn altitude_at(t: &[u8], p: Place) -> AltitudeHeld
     ensures { result ≡ altitude_at t.now p }
 {
@@ -370,6 +378,7 @@ fn altitude_at(t: &[u8], p: Place) -> AltitudeHeld
     }
 }
 
+#[tactic(auto, unfolding(crate::specs::Fields::real_at))]
 pub fn real_at(t: &[u8], p: Place, name: Name) -> Decimal
     ensures { result ≡ real_at t.now p name }
 {
@@ -384,6 +393,7 @@ pub fn real_at(t: &[u8], p: Place, name: Name) -> Decimal
     }
 }
 
+#[tactic(auto, unfolding(crate::specs::Fields::key_at))]
 pub fn key_at(t: &[u8], p: Place) -> Named
     ensures { result ≡ key_at t.now p }
 {
@@ -401,6 +411,7 @@ pub fn key_at(t: &[u8], p: Place) -> Named
 }
 
 // Nothing follows the last field.
+#[tactic(auto, unfolding(crate::specs::Fields::ended_at))]
 pub fn ended(t: &[u8], p: Place, last: Name) -> Place
     ensures { result ≡ ended_at t.now p last }
 {
@@ -417,6 +428,7 @@ pub fn ended(t: &[u8], p: Place, last: Name) -> Place
 
 // ---- what numbers say
 
+#[tactic(auto, unfolding(crate::specs::Fields::epoch_at))]
 pub fn epoch_at(t: &[u8], p: Place, name: Name) -> EpochHeld
     ensures { result ≡ epoch_at t.now p name }
 {
@@ -435,6 +447,7 @@ pub fn epoch_at(t: &[u8], p: Place, name: Name) -> EpochHeld
 }
 
 // A row number: none is the largest u32.
+#[tactic(auto, unfolding(crate::specs::Fields::link_at))]
 pub fn link_at(t: &[u8], p: Place, name: Name) -> Small
     ensures { result ≡ link_at t.now p name }
 {
@@ -452,6 +465,7 @@ pub fn link_at(t: &[u8], p: Place, name: Name) -> Small
     }
 }
 
+#[tactic(auto, unfolding(crate::specs::Fields::distance_at))]
 fn distance_at(t: &[u8], p: Place) -> DistanceHeld
     ensures { result ≡ distance_at t.now p }
 {
@@ -483,6 +497,7 @@ fn last_of(n: u64) -> Last
 
 // ---- several fields
 
+#[tactic(auto, unfolding(crate::specs::Fields::two_at))]
 pub fn two_at(t: &[u8], p: Place, first: Name, second: Name) -> Two
     ensures { result ≡ two_at t.now p first second }
 {
@@ -497,6 +512,7 @@ pub fn two_at(t: &[u8], p: Place, first: Name, second: Name) -> Two
     }
 }
 
+#[tactic(auto, unfolding(crate::specs::Fields::four_at))]
 pub fn four_at(t: &[u8], p: Place) -> Four
     ensures { result ≡ four_at t.now p }
 {
@@ -514,6 +530,7 @@ pub fn four_at(t: &[u8], p: Place) -> Four
 }
 
 // LAT LON ALT|-
+#[tactic(auto, unfolding(crate::specs::Fields::site_fields))]
 fn site_fields(t: &[u8], p: Place) -> SiteHeld
     ensures { result ≡ site_fields t.now p }
 {
@@ -533,6 +550,7 @@ fn site_fields(t: &[u8], p: Place) -> SiteHeld
 }
 
 // A claim's site: `-`, or LAT LON ALT|-.
+#[tactic(auto, unfolding(crate::specs::Fields::claim_at))]
 pub fn claim_at(t: &[u8], p: Place) -> SiteHeld
     ensures { result ≡ claim_at t.now p }
 {
@@ -573,6 +591,7 @@ fn back_to(p: Place, e: Place) -> Place
 }
 
 // LAT,LON,ALT|- and no more.
+#[tactic(auto, unfolding(crate::specs::Fields::site_parts))]
 fn site_parts(s: &[u8], p: Place) -> SiteHeld
     ensures { result ≡ site_parts s.now p }
 {
@@ -584,6 +603,7 @@ fn site_parts(s: &[u8], p: Place) -> SiteHeld
 }
 
 // A row's site.
+#[tactic(auto, unfolding(crate::specs::Fields::site_at))]
 pub fn site_at(t: &[u8], p: Place) -> SiteHeld
     ensures { result ≡ site_at t.now p }
 {
@@ -605,6 +625,7 @@ pub fn site_at(t: &[u8], p: Place) -> SiteHeld
 }
 
 // LAST,WRONGS,OTHERS
+#[tactic(auto, unfolding(crate::specs::Fields::runs_at))]
 fn runs_at(s: &[u8], p: Place) -> RunsHeld
     ensures { result ≡ runs_at s.now p }
 {
@@ -624,6 +645,7 @@ fn runs_at(s: &[u8], p: Place) -> RunsHeld
 }
 
 // LAST,WRONGS,OTHERS,DISTANCE|-,MOVED and no more.
+#[tactic(auto, unfolding(crate::specs::Fields::verdict_parts))]
 fn verdict_parts(s: &[u8], p: Place) -> VerdictHeld
     ensures { result ≡ verdict_parts s.now p }
 {
@@ -651,6 +673,7 @@ fn verdict_parts(s: &[u8], p: Place) -> VerdictHeld
 }
 
 // A row's verdict.
+#[tactic(auto, unfolding(crate::specs::Fields::verdict_at))]
 pub fn verdict_at(t: &[u8], p: Place) -> VerdictHeld
     ensures { result ≡ verdict_at t.now p }
 {
@@ -700,6 +723,7 @@ pub struct LinksHeld {
 }
 
 // SITE GEN EVEN ODD
+#[tactic(auto, unfolding(crate::specs::Fields::heard_at))]
 fn heard_at(t: &[u8], p: Place) -> HeardHeld
     ensures { result ≡ heard_at t.now p }
 {
@@ -724,6 +748,7 @@ fn heard_at(t: &[u8], p: Place) -> HeardHeld
 }
 
 // SITE GEN EVEN ODD VERDICT
+#[tactic(auto, unfolding(crate::specs::Fields::part_at))]
 pub fn part_at(t: &[u8], p: Place) -> PartHeld
     ensures { result ≡ part_at t.now p }
 {
@@ -741,6 +766,7 @@ pub fn part_at(t: &[u8], p: Place) -> PartHeld
 }
 
 // BEFORE AFTER
+#[tactic(auto, unfolding(crate::specs::Fields::links_at))]
 pub fn links_at(t: &[u8], p: Place) -> LinksHeld
     ensures { result ≡ links_at t.now p }
 {
@@ -755,6 +781,7 @@ pub fn links_at(t: &[u8], p: Place) -> LinksHeld
     }
 }
 
+#[tactic(auto, unfolding(crate::specs::Fields::clock_field))]
 fn clock_field(t: &[u8], p: Place) -> ClockHeld
     ensures { result ≡ clock_field t.now p }
 {
@@ -773,6 +800,7 @@ fn clock_field(t: &[u8], p: Place) -> ClockHeld
 }
 
 // NOW, which may be missing
+#[tactic(auto, unfolding(crate::specs::Fields::clock_at))]
 pub fn clock_at(t: &[u8], p: Place) -> ClockHeld
     ensures { result ≡ clock_at t.now p }
 {
