@@ -41,6 +41,7 @@ fn pick(word: &[u8], name: &[u8], this: Kind, other: Kind) -> Kind
     other
 }
 
+#[tactic(auto, unfolding(crate::specs::Lines::which_single))]
 fn which_single(w: &[u8], other: Kind) -> Kind
     ensures { result ≡ which_single w.now other }
 {
@@ -51,6 +52,7 @@ fn which_single(w: &[u8], other: Kind) -> Kind
     pick(w, b"bit", Kind::Bit, d)
 }
 
+#[tactic(auto, unfolding(crate::specs::Lines::which_call))]
 fn which_call(w: &[u8], other: Kind) -> Kind
     ensures { result ≡ which_call w.now other }
 {
@@ -64,6 +66,7 @@ fn which_call(w: &[u8], other: Kind) -> Kind
     pick(w, b"turn", Kind::Turn, g)
 }
 
+#[tactic(auto, unfolding(crate::specs::Lines::which_lent))]
 fn which_lent(w: &[u8], other: Kind) -> Kind
     ensures { result ≡ which_lent w.now other }
 {
@@ -76,6 +79,7 @@ fn which_lent(w: &[u8], other: Kind) -> Kind
 }
 
 // The call that a word names.
+#[tactic(auto, unfolding(crate::specs::Lines::which_of))]
 pub fn which(w: &[u8]) -> Kind
     ensures { result ≡ which_of w.now }
 {
@@ -101,12 +105,14 @@ fn closed(t: &[u8], p: Place, last: Name, line: Line) -> Said
     crate::say(told(e, line))
 }
 
+#[tactic(auto, unfolding(crate::specs::Lines::bare_line))]
 fn bare_line(t: &[u8], p: Place, line: Line) -> Said
     ensures { result ≡ bare_line t.now p line }
 {
     closed(t, p, Name::Word, line)
 }
 
+#[tactic(auto, unfolding(crate::specs::Lines::key_line))]
 fn key_line(t: &[u8], p: Place, line: Line) -> Said
     ensures { result ≡ key_line t.now p line }
 {
@@ -120,6 +126,7 @@ fn key_line(t: &[u8], p: Place, line: Line) -> Said
     }
 }
 
+#[tactic(auto, unfolding(crate::specs::Lines::watch_line))]
 fn watch_line(t: &[u8], p: Place) -> Said
     ensures { result ≡ watch_line t.now p }
 {
@@ -128,6 +135,7 @@ fn watch_line(t: &[u8], p: Place) -> Said
     closed(t, q, Name::Rows, Line::Watch { rows: w.n })
 }
 
+#[tactic(auto, unfolding(crate::specs::Lines::claim_line))]
 fn claim_line(t: &[u8], p: Place) -> Said
     ensures { result ≡ claim_line t.now p }
 {
@@ -144,6 +152,7 @@ fn claim_line(t: &[u8], p: Place) -> Said
     }
 }
 
+#[tactic(auto, unfolding(crate::specs::Lines::position_line))]
 fn position_line(t: &[u8], p: Place) -> Said
     ensures { result ≡ position_line t.now p }
 {
@@ -175,6 +184,7 @@ fn position_line(t: &[u8], p: Place) -> Said
     }
 }
 
+#[tactic(auto, unfolding(crate::specs::Lines::judging_line))]
 fn judging_line(t: &[u8], p: Place) -> Said
     ensures { result ≡ judging_line t.now p }
 {
@@ -198,6 +208,7 @@ fn judging_line(t: &[u8], p: Place) -> Said
     }
 }
 
+#[tactic(auto, unfolding(crate::specs::Lines::turn_line))]
 fn turn_line(t: &[u8], p: Place) -> Said
     ensures { result ≡ turn_line t.now p }
 {
@@ -219,6 +230,7 @@ fn turn_line(t: &[u8], p: Place) -> Said
     )
 }
 
+#[tactic(auto, unfolding(crate::specs::Lines::place_line))]
 fn place_line(t: &[u8], p: Place) -> Said
     ensures { result ≡ place_line t.now p }
 {
@@ -237,6 +249,7 @@ fn place_line(t: &[u8], p: Place) -> Said
     )
 }
 
+#[tactic(auto, unfolding(crate::specs::Lines::same_line))]
 fn same_line(t: &[u8], p: Place) -> Said
     ensures { result ≡ same_line t.now p }
 {
@@ -255,6 +268,7 @@ fn same_line(t: &[u8], p: Place) -> Said
     )
 }
 
+#[tactic(auto, unfolding(crate::specs::Lines::horizon_line))]
 fn horizon_line(t: &[u8], p: Place) -> Said
     ensures { result ≡ horizon_line t.now p }
 {
@@ -263,6 +277,7 @@ fn horizon_line(t: &[u8], p: Place) -> Said
     closed(t, q, Name::B, Line::Horizon { a: x.a, b: x.b })
 }
 
+#[tactic(auto, unfolding(crate::specs::Lines::bucket_line))]
 fn bucket_line(t: &[u8], p: Place) -> Said
     ensures { result ≡ bucket_line t.now p }
 {
@@ -272,6 +287,7 @@ fn bucket_line(t: &[u8], p: Place) -> Said
     closed(t, q, Name::Feet, Line::Bucket(feet))
 }
 
+#[tactic(auto, unfolding(crate::specs::Lines::bit_line))]
 fn bit_line(t: &[u8], p: Place) -> Said
     ensures { result ≡ bit_line t.now p }
 {
@@ -280,6 +296,7 @@ fn bit_line(t: &[u8], p: Place) -> Said
     closed(t, q, Name::Address, Line::Bit { address: w.n })
 }
 
+#[tactic(auto, unfolding(crate::specs::Lines::lend_line))]
 fn lend_line(t: &[u8], p: Place) -> Said
     ensures { result ≡ lend_line t.now p }
 {
@@ -298,6 +315,7 @@ fn lend_line(t: &[u8], p: Place) -> Said
     )
 }
 
+#[tactic(auto, unfolding(crate::specs::Lines::row_line))]
 fn row_line(t: &[u8], p: Place) -> Said
     ensures { result ≡ row_line t.now p }
 {
@@ -335,6 +353,7 @@ fn row_line(t: &[u8], p: Place) -> Said
     }
 }
 
+#[tactic(auto, unfolding(crate::specs::Lines::cell_line))]
 fn cell_line(t: &[u8], p: Place) -> Said
     ensures { result ≡ cell_line t.now p }
 {
@@ -345,6 +364,7 @@ fn cell_line(t: &[u8], p: Place) -> Said
     closed(t, pb, Name::Value, Line::Cell { at: a.n, word: b.n })
 }
 
+#[tactic(auto, unfolding(crate::specs::Lines::ends_line))]
 fn ends_line(t: &[u8], p: Place) -> Said
     ensures { result ≡ ends_line t.now p }
 {

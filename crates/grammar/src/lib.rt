@@ -1,5 +1,6 @@
 // One line of a list of calls, read into a value: its fields are read in turn by `readers`, and the first thing that is wrong is what the line comes to.
 #![tactic(auto)]
+
 mod kinds;
 
 ghost use Rattle.std.specs.Prelude.{◌≡◌};
@@ -96,6 +97,7 @@ pub fn say(line: Line) -> Said
 }
 
 // The call whose word ends at `end` and whose first field starts at `next`.
+#[tactic(auto, unfolding(crate::specs::Lines::call_of))]
 fn called(t: &[u8], end: usize, next: usize) -> Said
     ensures { result ≡ call_of t.now end next }
 {
@@ -104,6 +106,7 @@ fn called(t: &[u8], end: usize, next: usize) -> Said
     kinds::line_of(kind, t, end, p)
 }
 
+#[tactic(auto, unfolding(crate::specs::Lines::return_at_end))]
 fn ends_in_return(t: &[u8]) -> bool
     ensures { result ≡ return_at_end t.now }
 {
@@ -115,6 +118,7 @@ fn ends_in_return(t: &[u8]) -> bool
 }
 
 // A line's text, its comment taken off.
+#[tactic(auto, unfolding(crate::specs::Lines::text_of))]
 fn text(t: &[u8]) -> Said
     ensures { result ≡ text_of t.now }
 {
@@ -133,6 +137,7 @@ fn text(t: &[u8]) -> Said
 }
 
 // What a line of these bytes asks for.
+#[tactic(auto, unfolding(crate::specs::Lines::line_of))]
 pub fn read(s: &[u8]) -> Said
     ensures { result ≡ line_of s.now }
 {
