@@ -1,5 +1,5 @@
 -- Whole and signed numbers as a list of calls writes them. Definitions only.
-use Rattle.std.specs.Prelude.{ℕ, ◌+◌, ◌-◌, ◌*◌, ◌^◌, Bool, true, false, ◌&&◌, cond, List, [], ◌∷◌, length, get_or, drop, eqb, leb, ltb, pos, neg_ℤ}
+use Rattle.std.specs.Prelude.{ℕ, ◌+◌, ◌-◌, ◌*◌, ◌^◌, Bool, true, ◌&&◌, cond, List, [], ◌∷◌, length, get_or, drop, eqb, leb, ltb, pos, neg_ℤ}
 use Rattle.numbers.specs.declared.Number.{Number}
 use Rattle.numbers.specs.declared.Number.TheVariants as number
 use Rattle.numbers.specs.declared.Signed.{Signed}
