@@ -1,6 +1,7 @@
 // A cell of the siting watch: how many positions fell in it, the lowest altitude bucket, which aircraft. No other crate
 // knows how a cell is packed into a word.
 #![tactic(auto)]
+
 ghost use Rattle.std.specs.Prelude.{◌≡◌, min, ◌+◌, ◌<◌, ◌^◌, ltb};
 ghost use Rattle.cells.specs.Cells.{count_of, low_of, bits_of, occupied_word, unpacked, packed, empty_word, added, added_word, merge, merged_word, not_below_zero, bucket_of, aircraft_bit, ceiling};
 
