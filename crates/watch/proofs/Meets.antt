@@ -1,7 +1,7 @@
 -- How the contracts and the theorem of demand 3 meet: for every list of calls on a lent watch, each from what the one before left and each as its
 -- contract says, the answers are those of the definitions' `history` (`answers_are`). The theorem of crate `protection` speaks of that history. So it
 -- speaks of what was run: on a lent watch that `fresh` left, a protected receiver was answered as its card answers its calls alone (`kept`).
-use mathlib.Core.Path.{◌≡◌, refl, sym, ◌∙◌, ap, ap₂, subst}
+use mathlib.Core.Path.{◌≡◌, refl, ◌∙◌, ap, ap₂}
 use Prim.Native.Nat.{ℕ, ◌≤◌}
 use mathlib.Core.Option.{none}
 use mathlib.Core.List.{List, [], ◌∷◌, map}

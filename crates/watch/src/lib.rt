@@ -1,6 +1,7 @@
 // The siting watch: seven calls over rows, cells and ends that the caller lends. Nothing is asked of them: a watch that is not in order is
 // refused, and a refusal changes nothing. A call looks at each row once (crate `records`), decides on values (crates `bodies` and `moves`), and then stores.
 #![tactic(auto)]
+
 ghost use Rattle.std.specs.Prelude.{◌≡◌, true, false, get_or};
 ghost use Rattle.heard.specs.Heard.{site_fits};
 ghost use Rattle.receiver.specs.Calls as calls;
