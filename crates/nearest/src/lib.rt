@@ -1,6 +1,7 @@
 // The places heard, for crate `nothing_near`: their positions gathered by the 5 km step that their distance is said in, and the two nearest of them. Nothing is
 // sorted here. What 01 calls nothing near is defined in specs/Nothing, over the list of all places, with its answer `Empty`.
 #![tactic(auto)]
+
 ghost use Rattle.std.specs.Prelude.{◌≡◌, List, [], ℕ, ◌+◌, ◌≤◌, ◌<◌, length, get_or, set};
 ghost use Rattle.cells.specs.Cells.{count_of};
 ghost use Rattle.nearest.specs.Counted.{positions_among, cell_step, bin_step, cell_steps, all_steps, cell_spot, bin_spot, two_nearest, put, nearer, nearest_among};

@@ -1,0 +1,14 @@
+-- The table of the nine edges is right (`edge_square`); each return is one case of `nearer`.
+use Rattle.std.proofs.Common.{◌∙◌}
+use Rattle.nearest.specs.Counted.{bin_spot}
+use Rattle.nearest.proofs.Two.{edge_squares, edge_square, same_spot, is_nearer, not_nearer}
+use Rattle.nearest.proofs.with_bin.Goals as goal
+
+pub returns-then-d-second : goal.returns-then-d-second
+unfolding edge_squares bin_spot
+returns-then-d-second c =
+    c.put.ensures ∙ is_nearer _ _ _ (same_spot (edge_square c.args.j) c.bin_step.ensures.0 c.count_of.ensures) c.if-d-second.true
+
+pub returns : goal.returns
+unfolding edge_squares bin_spot
+returns c = not_nearer _ (bin_spot _ _) _ (edge_square c.args.j) c.if-d-second.false
