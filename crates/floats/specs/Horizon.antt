@@ -1,6 +1,6 @@
 -- 01, A judging, 2: the horizon in f64, every operation rounded once. Definitions only.
 use Rattle.std.specs.Prelude.{ℕ, ◌+◌, ◌*◌, false, cond, ℤ, pos, negsuc, Float}
-use Rattle.std.specs.Float.{fin, binary64}
+use Rattle.std.specs.Float.{binary64}
 use Rattle.std.specs.Float.Ieee.{round, of_int, add, sub, mul, lt}
 use Rattle.root.specs.Root.{root, plus_zero}
 use Rattle.floats.specs.declared.horizon.Past.{Past}
