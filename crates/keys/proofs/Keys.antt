@@ -1,8 +1,8 @@
 -- Keys: one turn of each loop over the digits, and the ways out.
 use mathlib.Core.Path.{◌≡◌, refl, sym, ap, ◌∙◌}
 use mathlib.Core.Bool.{Bool, true, false, ◌&&◌}
-use mathlib.Core.List.{List, [], ◌∷◌, ◌++◌}
-use Prim.Native.Nat.{ℕ, suc, ◌+◌, ◌-◌, ◌*◌, ◌%◌, ◌≤◌, ◌<◌}
+use mathlib.Core.List.{List}
+use Prim.Native.Nat.{ℕ, ◌+◌, ◌-◌, ◌*◌, ◌%◌, ◌≤◌, ◌<◌}
 use native.Mathlib.Numerals.{add-one}
 use native.Mathlib.Omega.{arith}
 use borrow.Author.Tests.{lt-ltb, le-ltb, le-leb, lt-leb, leb-true}
@@ -11,7 +11,6 @@ use lib.ListN.{length, get_or, take, drop, set, replicate}
 use lib.Seq.{take-suc-set, take_all}
 use Rattle.numbers.specs.Numbers.{digit_of, all_digits}
 use Rattle.keys.specs.Keys.{is_key, hex_at, key_byte, key_bytes, key_of}
-use Rattle.keys.specs.declared.Key.{Key}
 use Rattle.fields.proofs.Lines.{walk, walked}
 
 -- ---- the digits

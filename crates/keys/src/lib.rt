@@ -1,5 +1,6 @@
 // A key of a list of calls, read from a slice of bytes by its hex digits.
 #![tactic(auto)]
+
 ghost use Rattle.std.specs.Prelude.{◌≡◌, Bool, ◌<◌, ◌≤◌, ◌%◌, length};
 ghost use Rattle.numbers.specs.Numbers.{digit_of, all_digits};
 ghost use Rattle.keys.specs.Keys.{is_key, hex_at, key_byte, key_bytes, key_of};
@@ -27,6 +28,7 @@ fn all_hex(s: &[u8]) -> bool
 }
 
 // Whether these are the digits of a key.
+#[tactic(auto, using(crate::proofs::Keys::key_none, crate::proofs::Keys::key_long, crate::proofs::Keys::key_hex))]
 fn is_key(s: &[u8]) -> bool
     ensures { result ≡ is_key s.now }
 {
@@ -47,6 +49,7 @@ fn low(c: u8) -> u8
 }
 
 // Digit k of a key's 64.
+#[tactic(auto, using(crate::proofs::Keys::hex_lead, crate::proofs::Keys::hex_digit))]
 fn hex_at(s: &[u8], k: usize) -> u8
     requires { (length s.now ≤ 64) × (k < 64) }
     ensures { (result ≡ hex_at s.now k) × (result < 16) }
@@ -59,6 +62,7 @@ fn hex_at(s: &[u8], k: usize) -> u8
     low(s[j])
 }
 
+#[tactic(auto, using(crate::proofs::Keys::byte_is))]
 fn key_byte(s: &[u8], i: usize) -> u8
     requires { (length s.now ≤ 64) × (i < 32) }
     ensures { result ≡ key_byte s.now i }
@@ -82,6 +86,7 @@ fn key_bytes(s: &[u8]) -> [u8; 32]
 }
 
 // A key of up to 64 hex digits.
+#[tactic(auto, using(crate::proofs::Keys::key_length_by, crate::proofs::Keys::key_read, crate::proofs::Keys::key_bad))]
 pub fn read_key(s: &[u8]) -> Key
     ensures { result ≡ key_of s.now }
 {
