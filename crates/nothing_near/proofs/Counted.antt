@@ -3,7 +3,7 @@
 use mathlib.Core.Path.{◌≡◌, refl, sym, ap, ◌∙◌}
 use mathlib.Core.Bool.{Bool, true, false, ◌&&◌, cond}
 use mathlib.Core.List.{List, [], ◌∷◌, ◌++◌}
-use Prim.Native.Nat.{ℕ, zero, suc, ◌+◌, ◌-◌, ◌%◌, ◌<◌}
+use Prim.Native.Nat.{ℕ, zero, suc, ◌+◌, ◌-◌, ◌%◌}
 use native.Mathlib.Nat.{mod-lt, zero-lt-suc, add-zero}
 use native.Mathlib.Omega.{arith}
 use borrow.Author.Tests.{ltb-true, lt-ltb, lt-leb}
@@ -14,15 +14,15 @@ use Rattle.cells.specs.Passes.{pass, sum_of}
 use Rattle.cells.proofs.Passes.{pass_all}
 use Rattle.view.specs.declared.Far.{Far}
 use Rattle.view.specs.View.{occupied_among}
-use Rattle.plane.specs.Plane.{square, from_site, steps}
+use Rattle.plane.specs.Plane.{square, from_site}
 use Rattle.near_field.specs.Near.{cells_within}
 use Rattle.near_field.proofs.Sorted.{sum_where, count_where, length_where, within}
-use Rattle.nearest.specs.Nothing.{Place, nearest_of, typical_of, positions_of, km, edges, halfway, cell_place, bin_place, heard, places_heard, places, positions_in}
-use Rattle.nearest.specs.Counted.{positions_among, cell_step, bin_step}
+use Rattle.nearest.specs.Nothing.{Place, nearest_of, positions_of, km, edges, cell_place, bin_place, heard, places_heard, positions_in}
+use Rattle.nearest.specs.Counted.{positions_among}
 use Rattle.nothing_near.specs.Counted.{near_cells}
 use Rattle.nothing_near.proofs.Weights.{sum_append, sum_one, total_where}
 use Rattle.nearest.proofs.Sums.{sum_next}
-use Rattle.nearest.proofs.Steps.{every, every_at, limit, steps_within}
+use Rattle.nearest.proofs.Steps.{every, every_at}
 
 -- ---- the places heard
 module _ (place : ℕ → Place) (words : List ℕ) (p : Place → Bool) (w : Place → ℕ) (q : ℕ → Bool) (f : ℕ → ℕ)

@@ -4,13 +4,13 @@
 use mathlib.Core.Path.{◌≡◌, refl, sym, ap, ◌∙◌}
 use mathlib.Core.Bool.{Bool, true, false, cond}
 use mathlib.Core.List.{List, [], ◌∷◌}
-use Prim.Native.Nat.{ℕ, zero, suc, ◌+◌, ◌-◌, ◌*◌, ◌≤◌, ◌<◌, min}
+use Prim.Native.Nat.{ℕ, zero, suc, ◌+◌, ◌-◌, ◌≤◌, ◌<◌, min}
 use native.Mathlib.Omega.{arith}
 use borrow.Author.Tests.{leb-false, lt-ltb, le-ltb, ltb-true, lt-leb}
 use lib.Dec.{leb, ltb}
 use lib.ListN.{length, get_or, set, drop, length-set}
 use lib.Seq.{get_or-set_same, set-set, set-get_or}
-use Rattle.cells.specs.Cells.{count_of, occupied_word}
+use Rattle.cells.specs.Cells.{count_of}
 use Rattle.cells.specs.Passes.{sum_of}
 use Rattle.cells.proofs.Passes.{pass_all}
 use Rattle.view.specs.declared.Far.{Far}

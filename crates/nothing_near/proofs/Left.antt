@@ -11,7 +11,7 @@ use Rattle.view.specs.declared.Far.{Far}
 use Rattle.near_field.specs.Sorted.{ascending}
 use Rattle.nearest.specs.declared.Spot.{Spot}
 use Rattle.nearest.specs.declared.Nearest.{Nearest}
-use Rattle.nearest.specs.Nothing.{Place, nearest_of, positions_of, places_heard, from_third, positions_in, typical_in}
+use Rattle.nearest.specs.Nothing.{Place, nearest_of, positions_of, places_heard, from_third, typical_in}
 use Rattle.nearest.specs.Counted.{below, spot_of, first_two}
 use Rattle.nothing_near.specs.Counted.{reached_at, Kept}
 use Rattle.nothing_near.proofs.Kept.{Keeps, nth, second_first, first_fits, first_out, fits, from_third_lem, alone, one_out, two_out, kept_in_order}

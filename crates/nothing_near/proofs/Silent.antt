@@ -8,7 +8,7 @@ use borrow.Author.Tests.{lt-leb, le-ltb, ltb-false}
 use lib.Dec.{leb}
 use lib.ListN.{get_or}
 use Rattle.cells.specs.Cells.{count_of, occupied_word}
-use Rattle.cells.specs.Passes.{sum_of, how_many}
+use Rattle.cells.specs.Passes.{how_many}
 use Rattle.cells.proofs.Passes.{pass_all, pass_skip}
 use Rattle.cells.proofs.Words.{zero_free}
 use Rattle.view.specs.View.{Unheard}

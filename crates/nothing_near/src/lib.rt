@@ -1,6 +1,7 @@
 // Nothing heard near the site: how far the typical position is, the two nearest places aside. Nothing is sorted here: the places under
 // 60 km are counted, and of all positions, which crate `nearest` gathers by their steps, those of the two nearest are taken out.
 #![tactic(auto)]
+
 ghost use Rattle.std.specs.Prelude.{◌≡◌, List, ℕ, ◌-◌, ◌*◌, ◌≤◌, ◌<◌, min, max, ltb, length, get_or, set};
 ghost use Rattle.cells.specs.Passes.{first};
 ghost use Rattle.plane.specs.Plane.{steps};
