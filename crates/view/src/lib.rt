@@ -1,5 +1,6 @@
 // What was heard over the halves still kept, merged.
 #![tactic(auto)]
+
 ghost use Rattle.std.specs.Prelude.{◌≡◌, ◌||◌, ◌&&◌, cond, ◌+◌, ◌≤◌, ◌<◌, eqb, length};
 ghost use Rattle.cells.specs.Cells.{empty_word};
 ghost use Rattle.cells.specs.Passes.{some};
