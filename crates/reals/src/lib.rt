@@ -1,5 +1,6 @@
 // An f64 of a list of calls, read from slices of bytes: by its 16 hex digits, or as a decimal number.
 #![tactic(auto)]
+
 ghost use Rattle.std.specs.Prelude.{◌≡◌, ◌-◌, ◌^◌, ◌≤◌, Bool};
 ghost use Rattle.std.specs.Float.Ieee as Ieee;
 ghost use Rattle.std.specs.Float.{binary64};
