@@ -191,12 +191,16 @@ module _ (ws : List ℕ) (i a z : ℕ) (inside : i < length (rows_of ws)) (ea : 
   pub end_in : z ≤ length ws
   end_in = let h = has ws i inside in omega (arith, ez, room_for ws (length ws / words_of_row) i (whole ws i h) h.within)
 
+  -- they are a row's 25
+  pub part_is : length (take (z - a) (drop a ws)) ≡ 25
+  part_is = omega (arith, length-take (z - a) (drop a ws), length-drop a ws, end_in, ea, ez, wide_is)
+
   -- other words in their place
   module _ (ys : List ℕ) (long : length ys ≡ 25) where
     abbrev after : List ℕ
     after = take a ws ++ (ys ++ drop (z - a) (drop a ws))
 
-    put_long : length after ≡ length ws
+    pub put_long : length after ≡ length ws
     put_long =
         length-append (take a ws) (ys ++ drop (z - a) (drop a ws))
         ∙ omega (arith, end_in, ea, ez, wide_is, length-take a ws, length-append ys (drop (z - a) (drop a ws)), length-drop (z - a) (drop a ws), length-drop a ws, long)

@@ -1,6 +1,7 @@
 // Rows lent as plain numbers: 25 words of 64 bits each, so that they cross to C and Rust. A row is opened from its words and closed into them, field by
 // field with crate `packing`; nothing here asks for anything: words that no row was closed as open as a row that question 2 refuses.
 #![tactic(auto)]
+
 ghost use Rattle.std.specs.Prelude.{◌≡◌, ◌&&◌, ◌∷◌, ◌≤◌, ◌+◌, ◌*◌, leb, length, set, get_or};
 ghost use Rattle.std.proofs.lemmas.List.Edits.{sets};
 ghost use Rattle.rows.specs.Links.{blank};

@@ -3,12 +3,8 @@ use Rattle.flat.specs.Words.{junk}
 use mathlib.Core.Path.{refl}
 use lib.Ieee.{div, of_bits}
 use Rattle.table.specs.Rows.{NONE, zero_key}
-use Rattle.flat.proofs.junk.Statement.{statement}
-use Rattle.flat.proofs.junk.Tie as tie
+use Rattle.flat.proofs.junk.Goals as goal
 
-returns : tie.Need-returns
+pub returns : goal.returns
 unfolding junk div of_bits zero_key NONE
 returns c = refl
-
-pub junk_spec : {M : Type 1} → statement M
-junk_spec = tie.close (tie.spec returns)
