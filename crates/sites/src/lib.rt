@@ -1,5 +1,6 @@
 // Sites: two degrees and an altitude. Whether they are within degrees, whether two are one place, and where a position lies seen from one.
 #![tactic(auto)]
+
 ghost use Rattle.std.specs.Prelude.{◌≡◌, ◌<◌, T};
 ghost use Rattle.measures.specs.Degrees.{in_degrees};
 ghost use Rattle.sites.specs.Sites.{held, same_place, antenna, placed, placing};
