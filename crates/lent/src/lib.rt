@@ -1,6 +1,7 @@
 // The siting watch over rows lent as plain numbers, as C and Rust can lend them: the seven calls of crate `watch`, with the steps of crate `chains`.
 // Nothing is asked of what is lent: words that are no watch in order are refused, and a refusal changes no word. Accepted, the words are the call's rows, closed.
 #![tactic(auto)]
+
 ghost use Rattle.std.specs.Prelude.{◌≡◌, true, false, get_or};
 ghost use Rattle.heard.specs.Heard.{site_fits};
 ghost use Rattle.receiver.specs.Calls as calls;
