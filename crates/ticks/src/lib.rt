@@ -1,6 +1,7 @@
 // The turn keeper over rows lent as records (02, Item 1): the tick of crate `turns`, over `&[Row]`. What a tick does to the rows is planned first, by value: questions
 // 1, 2 and 8, and the used rows marked. Then each row that it names is read once, and what becomes of its key is decided by a function that sees no other row.
 #![tactic(auto)]
+
 ghost use Rattle.std.specs.Prelude.{◌≡◌, true, false, not, ◌+◌, ◌*◌, ◌<◌, ◌≤◌, ltb, length, get_or, set, replicate};
 ghost use Rattle.rows.specs.Read.{form, watch_is};
 ghost use Rattle.turns.specs.Turn.{start_of, turn_on};
