@@ -12,7 +12,7 @@ use lib.Seq.{get_or-set_same, get_or-set_other}
 use Rattle.angles.specs.Bearing.{sector}
 use Rattle.floats.specs.declared.horizon.Past.TheVariants.{No}
 use Rattle.cells.specs.Cells.{packed, empty_word, count_of, low_of, occupied_word}
-use Rattle.cells.specs.Passes.{pass, first, how_many, some, table}
+use Rattle.cells.specs.Passes.{pass, how_many, some, table}
 use Rattle.cells.proofs.Passes.{pass_all, table_same}
 use Rattle.cells.proofs.Words.{Parts, packed_parts, empty_fits}
 use Rattle.view.specs.View.{kept, merged_of, merged_at, grid_of, far_of}

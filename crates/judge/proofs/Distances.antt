@@ -19,7 +19,7 @@ use Rattle.sites.specs.declared.Claimed.{Claimed}
 use Rattle.sites.specs.declared.Claimed.TheVariants.{At, Nowhere}
 use Rattle.past_horizon.specs.Horizon.{past_horizon}
 use Rattle.past_horizon.proofs.Range.{past_distance}
-use Rattle.plane.specs.Plane.{square, said}
+use Rattle.plane.specs.Plane.{square}
 use Rattle.around.specs.Marks.{around_of, sectors_in, outside_of}
 use Rattle.near_field.specs.Near.{no_hole, members, mean_square, best_of, found_of, best_or_none, near_field_by, near_field}
 use Rattle.near_field.specs.declared.Judgment.{Judgment}

@@ -1,5 +1,6 @@
 // The judging of one row: where its cells say that the site is.
 #![tactic(auto)]
+
 ghost use Rattle.std.specs.Prelude.{◌≡◌, Bool, ◌||◌, List, ℕ, T, length};
 ghost use Rattle.measures.specs.Steps.{distance};
 ghost use Rattle.view.specs.View.{Unheard};

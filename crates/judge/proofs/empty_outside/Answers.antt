@@ -1,0 +1,11 @@
+-- The choice is the definition's.
+use Rattle.judge.specs.Judging.{if_outside}
+use Rattle.judge.proofs.empty_outside.Goals as goal
+
+pub returns-then-outside : goal.returns-then-outside
+unfolding if_outside
+returns-then-outside c = rw c.if-outside.true c.nothing_near.ensures
+
+pub returns-else-outside : goal.returns-else-outside
+unfolding if_outside
+returns-else-outside c = rw c.if-outside.false
