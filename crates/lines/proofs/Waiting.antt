@@ -4,11 +4,11 @@ use mathlib.Core.Path.{◌≡◌, sym, ap, ◌∙◌}
 use mathlib.Core.Bool.{true, false}
 use mathlib.Core.List.{List}
 use native.Mathlib.Omega.{arith}
-use lib.ListN.{take, drop, length-take}
+use lib.ListN.{drop, length-take}
 use borrow.Author.Tests.{eq-eqb, ne_eqb}
 use Rattle.fields.specs.Text.{first_of}
 use Rattle.fields.proofs.Lines.{find_le}
-use Rattle.lines.specs.Lines.{waiting, line_of, last_of, kept_of, taken_by, taken_of, read_on, Refilled, Next}
+use Rattle.lines.specs.Lines.{waiting, line_of, last_of, kept_of, taken_by, taken_of, Refilled, Next}
 use Rattle.lines.specs.declared.Input.{Input}
 use Rattle.lines.specs.declared.Step.{Step}
 use Rattle.lines.specs.declared.Line.{Line}

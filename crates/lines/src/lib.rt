@@ -1,9 +1,13 @@
-// Standard input, line by line, through a buffer that the caller lends.
+// An input, line by line, through a buffer that the caller lends.
 #![tactic(auto)]
+
 ghost use Rattle.std.specs.Prelude.{◌≡◌, ◌≤◌, ◌-◌};
 ghost use Rattle.lines.specs.Lines.{Within, start_of, line_of, last_of, kept_of, taken_of, Refilled, Next, bytes_of};
 
-use libc::STDIN_FILENO;
+mod streams;
+
+use std::io::Read;
+pub use streams::{Sink, Source};
 
 // What was read and not yet given lies from `at` to `have` in the buffer.
 #[derive(Clone, Copy)]
@@ -88,7 +92,7 @@ fn kept(s: Input) -> Input
 }
 
 // Reads on behind the bytes that are left, which are moved to the front. Where nothing came they are the last line.
-fn refill(s: Input, buf: &mut [u8]) -> Step
+fn refill<R: Read>(s: Input, from: &mut Source<R>, buf: &mut [u8]) -> Step
     requires { Within s buf.old }
     ensures { (Within result.input buf.new) × (Refilled s result) }
 {
@@ -97,8 +101,7 @@ fn refill(s: Input, buf: &mut [u8]) -> Step
     let end = k.have;
     let long = k.long;
     let left = fields::to_front(buf, start, end);
-    let got = libc::read(STDIN_FILENO, &mut buf[left..]);
-    let came = io::count(got, &buf[left..]);
+    let came = from.read(&mut buf[left..]);
     if came == 0 {
         return Step {
             input: Input {
@@ -148,14 +151,14 @@ fn taken(s: Input, buf: &[u8]) -> Step
 }
 
 // The next line, or more bytes where no line is whole. After the last line `more` is false.
-pub fn next_line(s: Input, buf: &mut [u8]) -> Step
+pub fn next_line<R: Read>(s: Input, from: &mut Source<R>, buf: &mut [u8]) -> Step
     requires { Within s buf.old }
     ensures { (Within result.input buf.new) × (Next s (taken_of s buf.old) result (taken_of s buf.old).line) }
 {
     let t = taken(s, buf);
     let line = t.line;
     match line {
-        Line::Nothing => refill(s, buf),
+        Line::Nothing => refill(s, from, buf),
         Line::TooLong => t,
         Line::At { start: _, end: _ } => t,
     }
