@@ -2,7 +2,6 @@
 use mathlib.Core.Path.{◌≡◌, refl, sym, ap, ap₂, ◌∙◌}
 use mathlib.Core.Logic.{◌≢◌}
 use Prim.Native.Nat.{ℕ, ◌+◌, ◌-◌, ◌*◌, ◌<◌}
-use native.Mathlib.Omega.{arith}
 use mathlib.Core.Bool.{Bool, true, false, cond, ◌&&◌}
 use mathlib.Core.List.{List, [], ◌∷◌, ◌++◌}
 use borrow.Author.Tests.{leb-false}
@@ -13,10 +12,8 @@ use Rattle.table.specs.Machine.{same}
 use Rattle.table.specs.Rows.{NONE, zero_key}
 use Rattle.table.proofs.Tests.{by_bool, clash}
 use Rattle.measures.specs.Degrees.{in_degrees}
-use Rattle.sites.specs.declared.Claimed.{Claimed}
 use Rattle.sites.specs.declared.Claimed.TheVariants.{Nowhere}
 use Rattle.verdicts.specs.declared.WrongBy.TheVariants as By
-use Rattle.verdicts.specs.declared.Judged.{Judged}
 use Rattle.verdicts.specs.declared.Judged.TheVariants.{Never}
 use Rattle.receiver.specs.declared.Part.{Part}
 use Rattle.heard.specs.Heard.{site_fits}

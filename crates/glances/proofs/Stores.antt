@@ -2,7 +2,7 @@
 use mathlib.Core.Path.{◌≡◌, refl, sym, ap, ap₂, ◌∙◌}
 use Prim.Native.Nat.{ℕ, ◌+◌, ◌≤◌}
 use native.Mathlib.Omega.{arith}
-use mathlib.Core.Bool.{Bool, true, cond, ◌&&◌}
+use mathlib.Core.Bool.{Bool, true, ◌&&◌}
 use mathlib.Core.List.{List, [], ◌∷◌, ◌++◌, append_assoc}
 use borrow.Author.Tests.{le-leb, leb-true}
 use lib.Dec.{leb}
@@ -12,8 +12,8 @@ use Rattle.table.proofs.Tests.{and_1, and_2, and_both}
 use Rattle.receiver.specs.declared.Part.{Part}
 use Rattle.rows.specs.declared.Row.{Row}
 use Rattle.rows.specs.Links.{with_links, with_part}
-use Rattle.packing.specs.Words.{most32, most64, key_of, wide2, maybe_fits, altitude_of, site_of, site_fits, id_of, by_of, run_of, verdict_of, run_fits, verdict_fits, clock_id, id_words, verdict_words}
-use Rattle.flat.specs.Words.{numbers_fit, heard_words, row_fits, row_of, junk, opened_of}
+use Rattle.packing.specs.Words.{most32, key_of, wide2, maybe_fits, altitude_of, site_of, site_fits, id_of, by_of, run_of, verdict_of, run_fits, verdict_fits, clock_id, id_words, verdict_words}
+use Rattle.flat.specs.Words.{numbers_fit, heard_words, row_fits, row_of, opened_of}
 use Rattle.packing.specs.Ranges.{VerdictIn, IdIn}
 use Rattle.flat.specs.Ranges.{HeardIn}
 use Rattle.packing.proofs.Runs.{runs2, over_rest}

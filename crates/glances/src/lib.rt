@@ -1,6 +1,7 @@
 // One row of the lent words without opening it: its links, and what the search for a key asks of it, read from the words that hold them; and stores of
 // its links or its part alone. A row with a word out of range is opened whole, and stored whole.
 #![tactic(auto)]
+
 ghost use Rattle.std.specs.Prelude.{◌≡◌, true, ◌&&◌, ◌<◌, ◌≤◌, eqb, length, set, get_or, drop};
 ghost use Rattle.table.specs.Machine.{same};
 ghost use Rattle.heard.specs.Heard.{site_fits};

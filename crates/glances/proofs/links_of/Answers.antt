@@ -1,0 +1,9 @@
+-- `glances::links_of` meets its contract: each way out is a law that is cited below, at what the code found.
+use Rattle.flat.specs.Words.{row_of}
+use Rattle.glances.proofs.Places.{links_are}
+use Rattle.std.proofs.Common.{rules}
+use Rattle.glances.proofs.links_of.Goals as goal
+
+pub returns : goal.returns
+unfolding row_of
+returns c = search (links_are, rules)

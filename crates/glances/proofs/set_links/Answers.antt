@@ -1,0 +1,24 @@
+-- `glances::set_links` meets its contract: links are stored into words that fit, or the row is opened and stored whole.
+use Rattle.std.proofs.Common.{◌<◌, length, refl}
+use Rattle.flat.specs.Table.{rows_of}
+use Rattle.flat.proofs.Rows.{start_fits, end_in, part_is, put_long}
+use Rattle.glances.proofs.Places.{fit_in, part_fits, links_changed}
+use Rattle.glances.proofs.set_links.Goals as goal
+
+pub offset_bounds-rows-a : goal.offset_bounds-rows-a
+offset_bounds-rows-a c = start_fits _ _ c.start_of-a.ensures c.ranges.at
+
+pub slice_bounds-store_links-end : goal.slice_bounds-store_links-end
+slice_bounds-store_links-end c =
+    let i : c.args.at < length (rows_of c.args.rows.now) = fit_in _ _ _ c.fits_at-good.ensures c.if-good.true in
+    end_in _ _ _ _ i c.start_of-a.ensures c.end_of-z.ensures
+
+pub store_links-requires : goal.store_links-requires
+store_links-requires c =
+    let i : c.args.at < length (rows_of c.args.rows.now) = fit_in _ _ _ c.fits_at-good.ensures c.if-good.true in
+    (part_is _ _ _ _ i c.start_of-a.ensures c.end_of-z.ensures, part_fits _ _ _ c.fits_at-good.ensures _ _ c.if-good.true c.start_of-a.ensures c.end_of-z.ensures _ refl)
+
+pub returns-then-good : goal.returns-then-good
+returns-then-good c =
+    let i : c.args.at < length (rows_of c.args.rows.now) = fit_in _ _ _ c.fits_at-good.ensures c.if-good.true in
+    (links_changed _ _ _ c.fits_at-good.ensures _ _ c.if-good.true c.start_of-a.ensures c.end_of-z.ensures _ c.store_links.ensures.1 _ _ c.store_links.ensures.0, put_long _ _ _ _ i c.start_of-a.ensures c.end_of-z.ensures _ c.store_links.ensures.1)

@@ -1,0 +1,13 @@
+-- `glances::words_fit` meets its contract: each way out is a law that is cited below, at what the code found.
+use Rattle.glances.proofs.Places.{head_unfit, numbers_unfit, verdict_decides}
+use Rattle.std.proofs.Common.{rules}
+use Rattle.glances.proofs.words_fit.Goals as goal
+
+pub returns-then-numbers : goal.returns-then-numbers
+returns-then-numbers c = search (verdict_decides, rules)
+
+pub returns-else-numbers : goal.returns-else-numbers
+returns-else-numbers c = search (numbers_unfit, rules)
+
+pub returns-else-head : goal.returns-else-head
+returns-else-head c = search (head_unfit, rules)
