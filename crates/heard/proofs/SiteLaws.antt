@@ -19,7 +19,7 @@ use Rattle.heard.specs.declared.Claiming.TheVariants as Claimings
 use Rattle.heard.specs.declared.Counting.{Counting}
 use Rattle.heard.specs.declared.Hearing.{Hearing}
 use Rattle.heard.specs.declared.Hearing.TheVariants as Hearings
-use Rattle.heard.specs.Heard.{half, width, Moved, given, kept_site, moved_to, claimed_site, claimed_none, claimed, epoch_of, is_even, held_id, with_id, not_older, holds_id, start_of, emptied, counted_at, on_site, on_claimed, positioned, site_fits}
+use Rattle.heard.specs.Heard.{half, width, given, kept_site, moved_to, claimed_site, claimed_none, claimed, epoch_of, is_even, held_id, with_id, not_older, holds_id, start_of, emptied, counted_at, on_site, on_claimed, positioned, site_fits}
 use Rattle.heard.specs.Answers.{claiming_is, half_before, counting_is, hearing_is, CountingFits, HearingFits}
 
 pub half_is : half ≡ 1672

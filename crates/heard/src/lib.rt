@@ -1,6 +1,7 @@
 // What is kept around the site that a row claims: which site, how often it moved, and the positions counted in two halves of 12 hours. A claim and a
 // position, decided by value; the cells are a slice that is lent.
 #![tactic(auto)]
+
 ghost use Rattle.std.specs.Prelude.{◌≡◌, ℕ, ◌+◌, ◌<◌, ◌≤◌, true, not, T, List, length, replicate};
 ghost use Rattle.std.proofs.lemmas.List.Edits.{sets};
 ghost use Rattle.cells.specs.Cells.{empty_word};
