@@ -1,6 +1,6 @@
 -- For the code: one law for each way out of a function, its premises as the code leaves them.
 use mathlib.Core.Path.{◌≡◌, sym, ◌∙◌}
-use Prim.Native.Nat.{ℕ, ◌+◌, ◌-◌, ◌%◌, ◌≤◌, ◌<◌}
+use Prim.Native.Nat.{ℕ, ◌-◌, ◌%◌, ◌≤◌, ◌<◌}
 use mathlib.Core.Logic.{◌≢◌}
 use native.Mathlib.Omega.{arith}
 use mathlib.Core.Bool.{Bool, true, false, cond, ◌||◌}
@@ -10,7 +10,6 @@ use Rattle.near_field.specs.declared.Judgment.{Judgment}
 use Rattle.near_field.specs.declared.Judgment.TheVariants as Found
 use Rattle.near_field.specs.declared.Evidence.{Evidence}
 use Rattle.verdicts.specs.declared.Last.{Last}
-use Rattle.verdicts.specs.declared.Last.TheVariants as Last
 use Rattle.verdicts.specs.declared.WrongBy.{WrongBy}
 use Rattle.verdicts.specs.declared.WrongBy.TheVariants.{Km, Nothing}
 use Rattle.verdicts.specs.declared.Verdict.{Verdict}

@@ -1,5 +1,6 @@
 // A receiver's run of judgings: its site is held wrong once three in a row found it wrong, and let go once three in a row did not.
 #![tactic(auto)]
+
 ghost use Rattle.std.specs.Prelude.{◌≡◌, cond, ◌||◌, leb};
 ghost use Rattle.verdicts.specs.Verdict as verdict;
 
