@@ -1,5 +1,6 @@
 // C functions for the comparison runs only: what the relay does not call.
 #![tactic(auto)]
+
 ghost use Rattle.std.specs.Prelude.{◌≡◌};
 ghost use Rattle.sites.specs.declared.Altitude.TheVariants as altitudes;
 ghost use Rattle.probes.specs.Probes.{same_answer};
