@@ -1,5 +1,6 @@
 // The horizon part of a judging: how far the far bins' aircraft are past what the site could hear.
 #![tactic(auto)]
+
 ghost use Rattle.std.specs.Prelude.{◌≡◌, Float};
 ghost use Rattle.root.specs.Root.{root};
 ghost use Rattle.floats.specs.Horizon.{at_least_zero};
