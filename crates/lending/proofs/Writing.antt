@@ -1,5 +1,5 @@
 -- The lines that write a watch: what lies behind its rows and cells stays, and a line that is refused changes nothing.
-use Rattle.std.proofs.Common.{◌≡◌, ℕ, zero, suc, ◌+◌, ◌*◌, ◌<◌, ◌≤◌, Bool, true, false, cond, ltb, leb, List, [], ◌∷◌, ◌++◌, length, take, drop, set, replicate, sym, refl, ap, ◌∙◌, append-nil, zero-add, add-one, arith, length-take-le, take_at, drop_at, le-ltb, lt-ltb, le-leb, leb-true}
+use Rattle.std.proofs.Common.{◌≡◌, ℕ, zero, suc, ◌+◌, ◌*◌, ◌<◌, ◌≤◌, Bool, true, false, cond, leb, List, [], ◌∷◌, ◌++◌, length, take, drop, set, replicate, sym, refl, ap, ◌∙◌, append-nil, zero-add, add-one, arith, length-take-le, take_at, drop_at, le-ltb, lt-ltb, le-leb, leb-true}
 use borrow.Author.Tests.{lt-leb}
 use lib.ListN.{length-replicate}
 use lib.Seq.{drop-length, sets, sets-eq}

@@ -44,6 +44,7 @@ fn mix_three(h: u64, a: u64, b: u64, c: u64) -> u64
 }
 
 // None is 2^64 − 1.
+#[tactic(auto, unfolding(crate::specs::Digests::link_word))]
 fn link_word(n: u32) -> u64
     ensures { result ≡ link_word n }
 {
@@ -191,6 +192,7 @@ fn mix_ends(h: u64, ends: &[u32; 3]) -> u64
     mix_three(h, a, b, c)
 }
 
+#[tactic(auto, unfolding(crate::specs::Digests::first_hash))]
 fn first_hash() -> u64
     ensures { result ≡ first_hash }
 {

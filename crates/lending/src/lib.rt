@@ -1,5 +1,6 @@
 // A watch in a lent piece of memory: its digest, and the lines that write it word by word, junk allowed.
 #![tactic(auto)]
+
 pub mod digest;
 
 ghost use Rattle.std.specs.Prelude.{◌≡◌, ◌*◌, ◌≤◌, [], ◌∷◌, ◌++◌, length, drop, replicate, slice_set};
@@ -105,6 +106,7 @@ pub fn no_ends(ends: &mut [u32; 3])
     put_ends(ends, n, n, n);
 }
 
+#[tactic(auto, unfolding(crate::specs::Lendings::lendable))]
 fn may_lend(c: u32, n: u32) -> Outcome
     ensures { result ≡ lendable c n }
 {
@@ -118,6 +120,7 @@ fn may_lend(c: u32, n: u32) -> Outcome
 }
 
 // C rows as unmade, N empty cells, no ends.
+#[tactic(auto, using(crate::proofs::Writing::rows_fit, crate::proofs::Writing::cells_fit, crate::proofs::Writing::lent_not, crate::proofs::Writing::lent_is))]
 pub fn lend(
     z: Size,
     rows: &mut [u64],
@@ -164,6 +167,7 @@ fn put_row(n: u32, rows: &mut [u64], at: u32, row: Row)
 }
 
 // Row I of the C, whole.
+#[tactic(auto, unfolding(crate::specs::Lendings::RowSet, crate::specs::Lendings::row_there))]
 pub fn set_row(z: Size, rows: &mut [u64], at: u32, row: Row) -> Changed
     requires { 25 * z.rows ≤ length rows.old }
     ensures { RowSet z at row rows.old rows.new result }
@@ -178,6 +182,7 @@ pub fn set_row(z: Size, rows: &mut [u64], at: u32, row: Row) -> Changed
 // ---- cell and ends
 
 // Cell I of the N.
+#[tactic(auto, unfolding(crate::specs::Lendings::CellSet, crate::specs::Lendings::cell_there))]
 pub fn set_cell(z: Size, cells: &mut [u32], at: u32, word: u32) -> Changed
     requires { z.cells ≤ length cells.old }
     ensures { CellSet z at word cells.old cells.new result }
@@ -190,6 +195,7 @@ pub fn set_cell(z: Size, cells: &mut [u32], at: u32, word: u32) -> Changed
     come_to(Outcome::Done, z)
 }
 
+#[tactic(auto, unfolding(crate::specs::Lendings::EndsSet))]
 pub fn set_ends(z: Size, ends: &mut [u32; 3], first: u32, last: u32, free: u32) -> Changed
     ensures { EndsSet z first last free ends.new result }
 {
@@ -198,6 +204,7 @@ pub fn set_ends(z: Size, ends: &mut [u32; 3], first: u32, last: u32, free: u32) 
 }
 
 // One of the four lines; `key` is the row's.
+#[tactic(auto, unfolding(crate::specs::Lendings::Applied))]
 pub fn apply(
     z: Size,
     rows: &mut [u64],
