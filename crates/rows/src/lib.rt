@@ -42,6 +42,7 @@ impl Row {
 }
 
 // Question 1: n rows with m cells.
+#[tactic(auto, unfolding(table::specs::Questions::most, heard::specs::Heard::width))]
 pub fn sizes_fit(n: usize, m: usize) -> bool
     ensures { result ≡ sizes_of n m }
 {
