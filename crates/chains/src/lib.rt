@@ -1,6 +1,7 @@
 // The order of use over rows lent as plain numbers: the steps of crate `rows` on the chains, and questions 1 to 3, with each row read and stored by crates
 // `flat` and `glances`; what crate `records` has over a slice of records.
 #![tactic(auto)]
+
 ghost use Rattle.std.specs.Prelude.{◌≡◌, ◌≤◌, length, get_or};
 ghost use Rattle.rows.specs.Read.{Looked};
 ghost use Rattle.rows.specs.Links.{blank, unlinked_rows, unlinked_ends, linked_rows, released_rows, released_ends, touched_rows, touched_ends, marked_rows, marked_ends, room_rows, room_ends, taken_rows, taken_ends, entered_rows, entered_ends, seat_of, seated_rows, fresh_from};
