@@ -1,7 +1,7 @@
 -- The phrases and the faults: their words stand where the code looks for them, and what is joined is the definition's text.
 use mathlib.Core.Path.{◌≡◌, refl, sym, ap, ◌∙◌}
 use mathlib.Core.Bool.{Bool, true, false, ◌&&◌, cond}
-use mathlib.Core.List.{List, [], ◌++◌, append-nil}
+use mathlib.Core.List.{List, [], append-nil}
 use Prim.Native.Nat.{ℕ}
 use lib.Dec.{leb}
 use lib.Ieee.{Float, binary64, to_bits}
@@ -14,7 +14,6 @@ use Rattle.near_field.specs.declared.Judgment.TheVariants as judgment
 use Rattle.near_field.specs.declared.Evidence.{Evidence}
 use Rattle.verdicts.specs.declared.CheckState.{CheckState}
 use Rattle.moves.specs.declared.Word.{Word}
-use Rattle.answers.specs.declared.fault.Blame.{Blame}
 use Rattle.answers.specs.declared.phrase.Form.TheVariants as form
 use Rattle.answers.specs.declared.phrase.Rest.TheVariants as rest
 use Rattle.answers.specs.declared.phrase.Phrase.{Phrase}

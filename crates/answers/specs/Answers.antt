@@ -3,7 +3,7 @@ use Rattle.std.specs.Prelude.{ℕ, zero, suc, ◌+◌, ◌≤◌, ◌≡◌, Boo
 use Rattle.std.specs.Float.{binary64}
 use Rattle.std.specs.Float.Ieee.{to_bits}
 use Rattle.fields.specs.Text.{spell, part_of, shown_of}
-use Rattle.print.specs.Print.{digits, decimal_text, bits_text, put_in, put_end}
+use Rattle.print.specs.Print.{digits, decimal_text, bits_text, put_in}
 use Rattle.near_field.specs.declared.Judgment.{Judgment}
 use Rattle.near_field.specs.declared.Judgment.TheVariants as judgment
 use Rattle.near_field.specs.declared.Evidence.{Evidence}

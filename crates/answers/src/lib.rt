@@ -1,5 +1,6 @@
 // What a line is answered, as a value and as text, put into a buffer that is lent. Which answer a line has is said above, in `session`.
 #![tactic(auto)]
+
 mod fault;
 mod phrase;
 pub mod put;

@@ -73,6 +73,7 @@ fn hexed(head: usize, value: u64) -> Phrase
     }
 }
 
+#[tactic(auto, unfolding(crate::specs::Words::word_at, fields::specs::Text::part_of, fields::specs::Text::first_of))]
 fn evidence_at(by: Evidence) -> usize
     ensures { word_at result ≡ evidence_text by }
 {

@@ -86,6 +86,7 @@ pub fn put_word(out: &mut [u8], n: usize, at: usize) -> usize
 }
 
 // Where a field's name starts.
+#[tactic(auto, unfolding(crate::specs::Words::word_at, fields::specs::Text::part_of, fields::specs::Text::first_of))]
 pub fn name_at(name: Name) -> usize
     ensures { word_at result ≡ name_text name }
 {
