@@ -8,7 +8,6 @@ use Rattle.numbers.specs.declared.Signed.TheVariants as signed
 use Rattle.vectors.specs.Lines.{first_word, rest_words, word_of, ended_at, row_of, whole_by, whole_in, metres_by, metres_in}
 use Rattle.vectors.specs.declared.read.Whole.{Whole}
 use Rattle.vectors.specs.declared.read.Metres.{Metres}
-use Rattle.vectors.specs.declared.read.Row.{Row}
 
 -- ---- words
 pub word_first : (k : ℕ) (t : List ℕ) → k ≡ 0 → first_word t ≡ word_of k t

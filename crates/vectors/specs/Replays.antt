@@ -1,5 +1,5 @@
 -- What each line does to the cells and to the counts. Definitions only.
-use Rattle.std.specs.Prelude.{◌≡◌, ℕ, ◌+◌, ◌%◌, ◌^◌, Bool, cond, ◌&&◌, List, set, replicate, ◌==◌, nat_lt, slice_set}
+use Rattle.std.specs.Prelude.{◌≡◌, ℕ, ◌+◌, ◌%◌, ◌^◌, Bool, cond, ◌&&◌, List, replicate, ◌==◌, nat_lt, slice_set}
 use Rattle.fields.specs.Text.{spell, same_bytes}
 use Rattle.lines.specs.Lines.{bytes_of}
 use Rattle.lines.specs.declared.Line.{Line}

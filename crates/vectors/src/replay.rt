@@ -5,7 +5,8 @@ ghost use Rattle.vectors.specs.Replays.{no_cells, no_counts, unread_of, missed_b
 
 use crate::read::Row;
 use crate::{read, write};
-use lines::{Input, Line};
+use lines::{Input, Line, Sink, Source};
+use std::io::{Read, Write};
 
 // The vectors since the last count, those that differ, and the lines that cannot be read.
 #[derive(Clone, Copy)]
@@ -184,26 +185,31 @@ fn answer(d: Done, line: Line, t: &[u8]) -> Done
 }
 
 // Takes the next line, or reads more where no line is whole.
-fn step(s: State, buf: &mut [u8]) -> State
+fn step<R: Read, W: Write>(
+    s: State,
+    from: &mut Source<R>,
+    to: &mut Sink<W>,
+    buf: &mut [u8],
+) -> State
     requires { Within s.input buf.old }
     ensures { (Within result.input buf.new) × (Stepped s.done result.done buf.new) }
 {
     let input = s.input;
     let done = s.done;
-    let got = lines::next_line(input, buf);
+    let got = lines::next_line(input, from, buf);
     let line = got.line;
     let rest = got.input;
     let t = lines::bytes(line, buf);
     let counts = done.counts;
-    write::show(counts, t);
+    write::show(to, counts, t);
     State {
         input: rest,
         done: answer(done, line, t),
     }
 }
 
-// A proved loop has to end, and nothing says that the input does. So the loop counts its turns down, from a number that no run uses up.
-pub fn run(buf: &mut [u8])
+// A proved loop has to end, and nothing says that the input does. So the loop has as many turns as no run uses up.
+pub fn run<R: Read, W: Write>(from: &mut Source<R>, to: &mut Sink<W>, buf: &mut [u8])
     ensures { length buf.new ≡ length buf.old }
 {
     let mut s = State {
@@ -213,9 +219,10 @@ pub fn run(buf: &mut [u8])
             counts: no_counts(),
         },
     };
-    let mut turns = u64::MAX;
-    while turns > 0 && s.input.more {
-        s = step(s, buf);
-        turns -= 1;
+    for _ in 0..u64::MAX {
+        if !s.input.more {
+            break;
+        }
+        s = step(s, from, to, buf);
     }
 }

@@ -4,8 +4,9 @@ ghost use Rattle.vectors.specs.Print.{Put, count_text, row_text, shown_by};
 
 use crate::read;
 use crate::replay::Counts;
-use libc::STDOUT_FILENO;
+use lines::Sink;
 use print::{put, put_decimal};
+use std::io::Write;
 
 // A number and what it counts.
 fn put_count(out: &mut [u8], at: usize, n: u64, what: &[u8]) -> usize
@@ -27,13 +28,13 @@ fn put_counts(out: &mut [u8], c: Counts, name: &[u8]) -> usize
 }
 
 // Where a line is `count NAME`, writes what was counted and answers how many bytes that is.
-pub fn show(c: Counts, t: &[u8]) -> usize
+pub fn show<W: Write>(to: &mut Sink<W>, c: Counts, t: &[u8]) -> usize
     ensures { result ≡ shown_by c t.now }
 {
     if fields::same(read::word(t, 0), b"count") {
         let mut out = [0u8; 2048];
         let n = put_counts(&mut out, c, fields::part(t, 6, t.len()));
-        io::write_all(STDOUT_FILENO, fields::part(&out, 0, n));
+        to.write(fields::part(&out, 0, n));
         return n;
     }
     0
