@@ -6,10 +6,10 @@ use native.Mathlib.Omega.{arith}
 use native.Mathlib.Numerals.{add-one}
 use mathlib.Core.Bool.{Bool, true, false, cond}
 use mathlib.Core.Option.{Option, none, some}
-use mathlib.Core.List.{List, [], ◌++◌, map, append-nil, append_assoc}
+use mathlib.Core.List.{List, [], ◌++◌, map, append_assoc}
 use lib.Dec.{leb, eqb}
-use lib.ListN.{length, get_or, set, take, drop, length-drop, drop_of_length-le}
-use lib.Seq.{sets, sets-eq, length-sets, take_all, drop-drop}
+use lib.ListN.{length, get_or, set, take, drop}
+use lib.Seq.{sets, sets-eq, length-sets, drop-drop}
 use borrow.Author.Tests.{lt-ltb, le-ltb, le-leb, lt-leb, leb-true, leb-false, eq-eqb, ne_eqb}
 use Rattle.table.specs.Rows.{NONE, row_at}
 use Rattle.table.specs.Questions.{chain, onto}
@@ -114,14 +114,12 @@ module _ (xs : List Row) (n left at : ℕ) (marks marks₀ : List Bool) (head : 
       none_left : 0 ≡ left
       none_left = omega arith
 
--- A KEY WRITTEN: the list from a place on is lent, and comes back with the key at its start
-pub key_put : (list key rest : List ℕ) (at : ℕ) → length key ≡ 32 → at + 32 ≤ length list → rest ≡ take (length key) key ++ drop (length key) (take (length list - at) (drop at list)) → take at list ++ (rest ++ drop (length list - at) (drop at list)) ≡ sets list at key
-key_put list key rest at long room e =
-    let all : take (length list - at) (drop at list) ≡ drop at list = take_all (length list - at) (drop at list) (omega (arith, length-drop at list)) in
-    let none : drop (length list - at) (drop at list) ≡ [] = drop_of_length-le (drop at list) {i = length list - at} (omega (arith, length-drop at list)) in
+-- A KEY WRITTEN: the list's 32 bytes from a place on are lent, and come back as the key
+pub key_put : (list key part : List ℕ) (at : ℕ) → length key ≡ 32 → at + 32 ≤ length list → part ≡ key → take at list ++ (part ++ drop (at + 32 - at) (drop at list)) ≡ sets list at key
+key_put list key part at long room e =
+    let wide : at + 32 - at ≡ length key = omega arith in
     let fits : at + length key ≤ length list = omega arith in
-    let is : rest ≡ key ++ drop (at + length key) list = e ∙ ap₂ {C = List ℕ} (λ a b. a ++ b) (take_all (length key) key (omega arith)) (ap (drop (length key)) all ∙ drop-drop (length key) at list) in
-    rw (none, is, append-nil) (sym (sets-eq key list at fits ∙ append_assoc (take at list) key (drop (at + length key) list)))
+    rw (e, wide, drop-drop (length key) at list) (sym (sets-eq key list at fits ∙ append_assoc (take at list) key (drop (at + length key) list)))
 
 -- A ROW'S KEY GIVEN
 pub given_count : (used : Bool) (count : ℕ) → used ≡ true → count + 1 ≡ count_after used count

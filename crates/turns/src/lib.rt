@@ -1,6 +1,7 @@
 // The turn keeper over rows lent as plain numbers (02, Item 1): each tick names the next k rows in ascending number, going round to 0, and gives the keys of
 // those that are used. A row alone does not tell whether it is used, so the used chain is walked once and its rows are marked; then the k rows are passed over.
 #![tactic(auto)]
+
 ghost use Rattle.std.specs.Prelude.{◌≡◌, false, List, map, ℕ, ◌+◌, ◌*◌, ◌<◌, ◌≤◌, length, get_or, replicate};
 ghost use Rattle.std.proofs.Math.Option.{some};
 ghost use Rattle.std.proofs.lemmas.List.Edits.{sets};
@@ -78,7 +79,7 @@ pub fn put_key(list: &mut [u8], at: usize, key: [u8; 32])
     requires { at + 32 ≤ length list.old }
     ensures { list.new ≡ sets list.old at key }
 {
-    bytes::copy(&key, &mut list[at..]);
+    list[at..at + 32].copy_from_slice(&key);
 }
 
 // The key of row `at`, if it is used, after the first `count` keys of the list; how many there are then.
