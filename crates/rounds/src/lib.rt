@@ -1,5 +1,6 @@
 // The line `turn NEXT K ROOM`: a tick of the turn keeper on the watch that is lent, with a list of ROOM keys of its own, and its answer as text.
 #![tactic(auto)]
+
 ghost use Rattle.std.specs.Prelude.{◌≡◌, ◌*◌, get_or, drop};
 ghost use Rattle.rows.specs.Read.{form};
 ghost use Rattle.turns.specs.Turn.{turn_on};
