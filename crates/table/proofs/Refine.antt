@@ -1,12 +1,12 @@
 -- The watch answers as the list of Order: each call gets the same answer and the watch stands for the list again (`step_agrees`), so every list of
 -- calls gets the same answers (`histories`).
 use mathlib.Core.Path.{◌≡◌, refl, sym, ap, ap₂, ◌∙◌, subst}
-use Prim.Native.Nat.{ℕ, ◌+◌, ◌≤◌, ◌<◌}
+use Prim.Native.Nat.{ℕ, ◌≤◌, ◌<◌}
 use native.Mathlib.Omega.{arith}
 use mathlib.Core.Option.{Option, none, some}
 use mathlib.Core.List.{List, [], ◌∷◌, ◌++◌}
 use lib.ListN.{length}
-use Rattle.table.specs.Machine.{Key, same, Kind, enters, uses, looks, leaves, Outcome, refuse, accept, Call, Answer, said, Step, Event, history}
+use Rattle.table.specs.Machine.{Key, Kind, enters, uses, looks, leaves, Outcome, refuse, accept, Call, Answer, said, Step, Event, history}
 use Rattle.table.specs.Rows.{NONE, Watch, row_at}
 use Rattle.table.specs.Questions.{most, find_row}
 use Rattle.table.specs.Watch.{Body, fresh_body, body_at, make_room, Rowed, rowed_machine, kept_row, on_row, on_none, located, watch_step}

@@ -10,13 +10,13 @@ use mathlib.Core.List.{List, [], ◌∷◌, ◌++◌}
 use lib.Dec.{eqb, ltb}
 use lib.ListN.{length, length-set, length-append}
 use lib.Seq.{length-sets}
-use Rattle.table.specs.Machine.{Key, same, leaves}
+use Rattle.table.specs.Machine.{Key, same}
 use Rattle.table.specs.Rows.{NONE, Row, Ends, Watch, Form, chain_of, with_chain, row_at, unlink, link_last, take_free}
 use Rattle.table.specs.Questions.{most, question1, question2}
 use Rattle.table.specs.Watch.{Body, put_body, touch, free_row, make_room, pushed_out, take_row}
 use Rattle.table.proofs.Tests.{by_bool, eqb_yes, eqb_no, eqb_true, eqb_false, ltb_yes, ltb_no, leb_yes}
 use Rattle.table.proofs.Keys.{same_eq}
-use Rattle.table.proofs.Numbers.{first, Apart, distinct_append, apart_append, distinct_drop, below_none}
+use Rattle.table.proofs.Numbers.{Apart, distinct_append, apart_append, distinct_drop, below_none}
 use Rattle.table.proofs.Linked.{at_same, at_other, at_kept, linked_split, Chained, linked_same, freed_same}
 use Rattle.table.proofs.Unlink.{unlinked, unlinked_apart, unlinked_below, unlink_long, unlink_keeps}
 use Rattle.table.proofs.Steps.{linked_last, link_long, link_keeps, released, release_long, release_keeps, release_part, taken}
