@@ -1,5 +1,6 @@
 // A list of calls, line by line: what a line is answered, and what it does to the watch that is lent. An answer and its text stand in `answers`.
 #![tactic(auto)]
+
 mod run;
 pub mod single;
 

@@ -29,6 +29,7 @@ fn same(a: Site, b: Site) -> Reply
 }
 
 // The number of an aircraft's bit.
+#[tactic(auto, unfolding(crate::specs::Replies::bit_of))]
 fn bit(address: u32) -> u32
     ensures { result ≡ bit_of address }
 {
