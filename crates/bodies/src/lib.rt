@@ -214,7 +214,7 @@ pub fn hear_part(row: Row, h: Hearing) -> Part
 
 // ---- judging
 
-// Asks 9: the row that was found, unless it is too soon to judge it.
+// Question 9: the row that was found, unless it is too soon to judge it.
 pub fn due(l: Look, row: Row, now_ms: u64) -> Look
     ensures { result ≡ due_look l row.part.judged_ms now_ms }
 {
