@@ -1,4 +1,3 @@
-pub mod Laws
 pub mod Looked
 pub mod Steps
 pub mod Entries
