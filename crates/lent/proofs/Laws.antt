@@ -7,8 +7,6 @@ use mathlib.Core.List.{List, []}
 use lib.ListN.{get_or, set}
 use Rattle.table.proofs.Tests.{clash}
 use Rattle.sites.specs.declared.Claimed.{Claimed}
-use Rattle.heard.specs.Heard.{site_fits}
-use Rattle.heard.specs.declared.Heard.{Heard}
 use Rattle.heard.specs.declared.Claiming.{Claiming}
 use Rattle.heard.specs.declared.Hearing.{Hearing}
 use Rattle.near_field.specs.declared.Judgment.{Judgment}
@@ -27,7 +25,7 @@ use Rattle.scans.specs.declared.Key.{Key}
 use Rattle.scans.specs.declared.Ends.{Ends}
 use Rattle.scans.specs.declared.Look.{Look}
 use Rattle.scans.specs.Scan.{is_no, is_unfit, at_of, number_of}
-use Rattle.bodies.specs.Bodies.{due_look, judged_row}
+use Rattle.bodies.specs.Bodies.{judged_row}
 
 -- REFUSED, NO WORD CHANGES
 pub same_words : (a : Answer) (l : List ℕ) → Untouched a l l
@@ -56,19 +54,9 @@ judged_words r j l n q = accepted r l n (ap is_refusal q)
 pub done_words : (r : Answer) (l n : List ℕ) → r ≡ saying Wd.Done → Untouched r l n
 done_words r l n q = accepted r l n (ap is_refusal q)
 
--- WHAT THE NEXT CALL ASKS: the site that is held is within degrees
-pub site_fits_lem : (s t : Bool) (xs : List Row) (i : ℕ) (row : Row) → (s ≡ false → site_fits (get_or xs i blank).part.heard.site ≡ true) → t ≡ s → t ≡ false → row ≡ get_or xs i blank → site_fits row.part.heard.site ≡ true
-site_fits_lem s t xs i row f p q e = ap (λ (x : Row). site_fits x.part.heard.site) e ∙ f (sym p ∙ q)
-
+-- A CLAIM WHOSE LOOK IS UNFIT changes nothing
 pub claim_unfit : (xs : List Row) (e : Ends) (l : Look) (k : Key) (site : Claimed) (m : Move) (t : Bool) → t ≡ is_unfit l → t ≡ true → m ≡ staying e (saying (Wd.Refused (number_of l))) → ClaimedRow xs e l k site m xs
 claim_unfit xs e l k site m t p q d = by_look_lem (sym p ∙ q) d refl
-
--- THE ROW THAT WAS FOUND
-pub heard_is : (xs : List Row) (i : ℕ) (r : Row) (h : Heard) → r ≡ get_or xs i blank → h ≡ r.part.heard → h ≡ (get_or xs i blank).part.heard
-heard_is xs i r h e q = q ∙ ap (λ (x : Row). x.part.heard) e
-
-pub due_is : (xs : List Row) (l d : Look) (i now : ℕ) (r : Row) → r ≡ get_or xs i blank → d ≡ due_look l r.part.judged_ms now → d ≡ due_look l (get_or xs i blank).part.judged_ms now
-due_is xs l d i now r e q = q ∙ ap (λ (x : Row). due_look l x.part.judged_ms now) e
 
 -- JUDGING, TAKE-OUT, DROP-OLDEST: one part each of the ways out of crate `moves`
 module _ (l : Look) (now : ℕ) (j : Judgment) (t : Bool) (test : t ≡ is_no l) where
