@@ -1,5 +1,5 @@
 // A reader and a writer, each with the first error that it gave. Nothing more is read or written after an error; whoever runs the program asks for it at the end.
-ghost use Rattle.std.specs.Prelude.{◌≤◌, length};
+ghost use Rattle.std.specs.Prelude.{◌≡◌, ◌≤◌, length, IsNone, IsSome, IfNone, IsOk};
 
 use std::io::{Error, Read, Result, Write};
 
@@ -16,7 +16,9 @@ pub struct Sink<W> {
 }
 
 impl<R: Read> Source<R> {
-    pub fn new(reader: R) -> Source<R> {
+    pub fn new(reader: R) -> Source<R>
+        ensures { IsNone result.failed }
+    {
         Source {
             reader,
             failed: None,
@@ -25,7 +27,8 @@ impl<R: Read> Source<R> {
 
     // How many bytes came into the buffer: none at the end of the input, and none at an error or after one.
     pub fn read(&mut self, buf: &mut [u8]) -> usize
-        ensures { result ≤ length buf.new }
+        ensures within { result ≤ length buf.new }
+        ensures failed { IsSome self.old.failed → (result ≡ 0) × (buf.new ≡ buf.old) × IsSome self.new.failed }
     {
         if self.failed.is_some() {
             return 0;
@@ -43,6 +46,7 @@ impl<R: Read> Source<R> {
     pub fn end(self) -> Result<()>
     where
         R: Drop,
+        ensures { IsNone self.failed → IsOk result }
     {
         match self.failed {
             Some(e) => Err(e),
@@ -52,7 +56,9 @@ impl<R: Read> Source<R> {
 }
 
 impl<W: Write> Sink<W> {
-    pub fn new(writer: W) -> Sink<W> {
+    pub fn new(writer: W) -> Sink<W>
+        ensures { IsNone result.failed }
+    {
         Sink {
             writer,
             failed: None,
@@ -60,7 +66,9 @@ impl<W: Write> Sink<W> {
     }
 
     // Writes all the bytes, unless an error came before.
-    pub fn write(&mut self, bytes: &[u8]) {
+    pub fn write(&mut self, bytes: &[u8])
+        ensures { IsSome self.old.failed → IsSome self.new.failed }
+    {
         if self.failed.is_some() {
             return;
         }
@@ -73,6 +81,7 @@ impl<W: Write> Sink<W> {
     pub fn end(self) -> Result<()>
     where
         W: Drop,
+        ensures { IsNone self.failed → IsOk result }
     {
         match self.failed {
             Some(e) => Err(e),
