@@ -3,7 +3,6 @@ use mathlib.Core.Bool.{Bool, true, false}
 use mathlib.Core.Option.{Option, none, some}
 use mathlib.Core.List.{List, [], ◌∷◌}
 use Rattle.table.specs.Machine.{Key, Kind, enters, uses, looks, leaves, Outcome, refuse, accept, Machine, Answer, refused, said, Step}
-use Rattle.protection.specs.Marks.{own}
 
 -- which kinds mark
 abbrev pub marks : Kind → Bool

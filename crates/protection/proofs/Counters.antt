@@ -9,7 +9,6 @@ use lib.Dec.{leb}
 use Rattle.near_field.specs.declared.Judgment.{Judgment}
 use Rattle.near_field.specs.declared.Judgment.TheVariants.{Unjudged, Fits, Wrong}
 use Rattle.verdicts.specs.declared.Last.{Last}
-use Rattle.verdicts.specs.declared.Last.TheVariants as Last
 use Rattle.verdicts.specs.declared.WrongBy.{WrongBy}
 use Rattle.verdicts.specs.declared.WrongBy.TheVariants.{Km, Nothing}
 use Rattle.verdicts.specs.declared.Verdict.{Verdict}

@@ -4,7 +4,7 @@
 use mathlib.Core.Path.{◌≡◌, refl, ap₂, ◌∙◌, subst}
 use Prim.Native.Nat.{ℕ, suc, ◌≤◌, ◌<◌}
 use native.Mathlib.Omega.{arith}
-use mathlib.Core.Bool.{Bool, true, false, not, cond, ◌&&◌}
+use mathlib.Core.Bool.{Bool, true, false, cond, ◌&&◌}
 use mathlib.Core.Option.{Option, none, some}
 use mathlib.Core.List.{List, [], ◌∷◌}
 use lib.Dec.{ltb}
@@ -12,8 +12,8 @@ use lib.ListN.{length}
 use Rattle.table.specs.Machine.{Key, same, Kind, enters, uses, looks, leaves, Outcome, refuse, accept, Machine, Call, Answer, Step, Event, history}
 use Rattle.table.proofs.Tests.{by_bool, clash, and_false, or_cases, or_1, or_2, none_2, ltb_true, ltb_false}
 use Rattle.table.proofs.Keys.{same_eq}
-use Rattle.table.proofs.Order.{Entry, find, without, replaced, behead, room, pushed, last, held_call, entered, new_call, serve, table_step}
-use Rattle.protection.specs.Marks.{calls_of, own, answers_to, accepted, member, Since, another, Fewer, since, Protected}
+use Rattle.table.proofs.Order.{Entry, find, without, replaced, behead, room, last, held_call, entered, new_call, serve, table_step}
+use Rattle.protection.specs.Marks.{calls_of, own, answers_to, accepted, member, Since, another, Fewer, Protected}
 use Rattle.protection.proofs.Alone.{marks, settle, blank_call, alone, answers_alone}
 use Rattle.protection.proofs.Held.{NoDup, Sub, distinct_le, member_add, keys, behind, keys_replaced, keys_length, gone, nodup_without, nodup_last, length_last, length_without, length_without_held, length_replaced, find_member, member_find, find_without, find_last, find_replaced, find_last_own, find_replaced_own, behind_none, behind_without, behind_replaced, behind_last, behind_last_own}
 

@@ -24,7 +24,7 @@ use Rattle.protection.specs.Marks.{calls_of, own, answers_to, Since, marking, si
 use Rattle.protection.specs.Run.{Run, HeldWrong, held, last_wrong, plain, says_of}
 use Rattle.protection.specs.Card.{Card, card_checked, card_step, card_answers, card_after}
 use Rattle.protection.specs.Promise.{marks_key, told, watch_after, Safe, Answers, Checks, Promise}
-use Rattle.protection.proofs.Alone.{marks, alone}
+use Rattle.protection.proofs.Alone.{marks}
 use Rattle.protection.proofs.Lru.{table_promise}
 use Rattle.protection.proofs.Runs.{held_means, means_held}
 use Rattle.protection.proofs.Cards.{card_answers_lem, row_is_card}

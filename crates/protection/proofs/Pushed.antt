@@ -11,10 +11,10 @@ use lib.ListN.{length}
 use Rattle.table.specs.Machine.{Key, same, Kind, enters, uses, looks, leaves, Outcome, refuse, accept, Machine, Call, Step, history}
 use Rattle.table.proofs.Tests.{by_bool, clash, ltb_true, ltb_false}
 use Rattle.table.proofs.Keys.{same_refl, same_eq}
-use Rattle.table.proofs.Order.{Entry, find, oldest, behead, pushed, last, held_call, new_call, serve, table_step}
-use Rattle.protection.specs.Marks.{pushed_key, accepted, member, Since, another, Fewer, since, Stays}
+use Rattle.table.proofs.Order.{Entry, find, oldest, behead, last, held_call, new_call, serve, table_step}
+use Rattle.protection.specs.Marks.{pushed_key, accepted, member, Since, another, Fewer, Stays}
 use Rattle.protection.proofs.Alone.{marks}
-use Rattle.protection.proofs.Held.{keys, behind, behind_none, find_member}
+use Rattle.protection.proofs.Held.{keys, behind_none, find_member}
 use Rattle.protection.proofs.Lru.{Cover, Inv, first_stays, inv_new, other_held, own_call}
 
 no_key_lem : {k : Key} {P : Type 0} → ◌≡◌ {A = Option Key} none (some k) → P
