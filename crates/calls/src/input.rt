@@ -7,9 +7,9 @@ ghost use Rattle.calls.specs.Inputs.{Lent, Came, number_of, room_of, Answered, S
 use answers::{Reply, Told};
 use grammar::Said;
 use lending::Size;
-use libc::STDOUT_FILENO;
-use lines::{Input, Line};
+use lines::{Input, Line, Sink, Source};
 use readers::Fault;
+use std::io::{Read, Write};
 
 #[derive(Clone, Copy)]
 pub struct State {
@@ -30,11 +30,11 @@ pub struct After {
 }
 
 // Writes the waiting answers where the buffer has little room left.
-fn room(out: &[u8], n: usize) -> usize
+fn room<W: Write>(to: &mut Sink<W>, out: &[u8], n: usize) -> usize
     ensures { result ≡ room_of n }
 {
     if n > 61000 {
-        io::write_all(STDOUT_FILENO, fields::part(out, 0, n));
+        to.write(fields::part(out, 0, n));
         0
     } else {
         n
@@ -72,7 +72,8 @@ fn number_of(line: Line, lines: u64) -> u64
 }
 
 // Runs a line, and puts its answer; a tick's is the turn keeper's, which leaves the watch as it is.
-fn answer(
+fn answer<W: Write>(
+    to: &mut Sink<W>,
     z: Size,
     rows: &mut [u64],
     cells: &mut [u32],
@@ -89,7 +90,7 @@ fn answer(
     let said = grammar::read(bytes);
     let told = tell(z, rows, cells, ends, line, said);
     let size = told.size;
-    let at = room(out, n);
+    let at = room(to, out, n);
     let m = answers::put_told(out, at, told, number, bytes);
     let asked = said.line;
     let end = rounds::put_line(size, rows, cells, ends, asked, out, m);
@@ -97,8 +98,10 @@ fn answer(
 }
 
 // Answers the next line, or reads more where no line is whole.
-fn step(
+fn step<R: Read, W: Write>(
     s: State,
+    from: &mut Source<R>,
+    to: &mut Sink<W>,
     rows: &mut [u64],
     cells: &mut [u32],
     ends: &mut [u32; 3],
@@ -110,12 +113,12 @@ fn step(
 {
     let input = s.input;
     let z = s.size;
-    let got = lines::next_line(input, buf);
+    let got = lines::next_line(input, from, buf);
     let line = got.line;
     let rest = got.input;
     let number = number_of(line, s.lines);
     let bytes = lines::bytes(line, buf);
-    let after = answer(z, rows, cells, ends, line, bytes, number, out, s.n);
+    let after = answer(to, z, rows, cells, ends, line, bytes, number, out, s.n);
     let size = after.size;
     State {
         input: rest,
@@ -125,9 +128,16 @@ fn step(
     }
 }
 
-// Before the first line there is a fresh watch of one row. A proved loop has to end, and nothing says that the input does. So the loop counts its turns down, from a number
-// that no run uses up.
-pub fn run(rows: &mut [u64], cells: &mut [u32], ends: &mut [u32; 3], buf: &mut [u8], out: &mut [u8])
+// Before the first line there is a fresh watch of one row. A proved loop has to end, and nothing says that the input does. So the loop has as many turns as no run uses up.
+pub fn run<R: Read, W: Write>(
+    from: &mut Source<R>,
+    to: &mut Sink<W>,
+    rows: &mut [u64],
+    cells: &mut [u32],
+    ends: &mut [u32; 3],
+    buf: &mut [u8],
+    out: &mut [u8],
+)
     requires { Room rows.old cells.old × (65536 ≤ length out.old) }
     ensures { length out.new ≡ length out.old }
 {
@@ -140,10 +150,11 @@ pub fn run(rows: &mut [u64], cells: &mut [u32], ends: &mut [u32; 3], buf: &mut [
         n: 0,
         lines: 0,
     };
-    let mut turns = u64::MAX;
-    while turns > 0 && s.input.more {
-        s = step(s, rows, cells, ends, buf, out);
-        turns -= 1;
+    for _ in 0..u64::MAX {
+        if !s.input.more {
+            break;
+        }
+        s = step(s, from, to, rows, cells, ends, buf, out);
     }
-    io::write_all(STDOUT_FILENO, fields::part(out, 0, s.n));
+    to.write(fields::part(out, 0, s.n));
 }
