@@ -1,8 +1,7 @@
 -- The digest in steps: words that are mixed in one after the other are mixed in as one list.
-use Rattle.std.proofs.Common.{◌≡◌, ℕ, ◌+◌, ◌*◌, ◌/◌, ◌%◌, Bool, true, false, cond, eqb, List, [], ◌∷◌, ◌++◌, get_or, ℤ, sym, refl, ap, ◌∙◌, div-add-mod', arith, w32, of_z}
+use Rattle.std.proofs.Common.{◌≡◌, ℕ, ◌+◌, ◌*◌, ◌/◌, ◌%◌, cond, List, [], ◌∷◌, ◌++◌, ℤ, sym, refl, ap, ◌∙◌, div-add-mod', arith, w32, of_z}
 use native.Mathlib.Nat.{add-mod-mod, add-mul-mod_self_right}
 use lib.Ieee.{binary64, to_bits}
-use Rattle.table.specs.Rows.{NONE}
 use Rattle.sites.specs.declared.Altitude.{Altitude}
 use Rattle.sites.specs.declared.Altitude.TheVariants.{Metres, Unknown}
 use Rattle.sites.specs.declared.Site.{Site}
@@ -15,9 +14,9 @@ use Rattle.verdicts.specs.declared.Verdict.{Verdict}
 use Rattle.verdicts.specs.declared.Judged.{Judged}
 use Rattle.verdicts.specs.declared.Judged.TheVariants.{With, Never}
 use Rattle.rows.specs.declared.Row.{Row}
-use Rattle.rows.specs.Read.{row_is, ends_is}
+use Rattle.rows.specs.Read.{row_is}
 use Rattle.flat.specs.Words.{heard_words}
-use Rattle.lending.specs.Digests.{times, mixed, mixed_all, link_word, distance_of, verdict_six, row_words, ends_words}
+use Rattle.lending.specs.Digests.{times, mixed, mixed_all, link_word, distance_of, verdict_six, row_words}
 use Rattle.packing.specs.Words.{word_of, eight, key_words, altitude_words, site_words, id_words, clock_id, last_word}
 
 -- 1099511628211 is 2^40 + 435: the low 24 bits shifted, and both halves times 435; what that leaves out is a multiple of 2^64
@@ -39,14 +38,6 @@ module _ (h : ℕ) where
   in_parts x y e f =
       f ∙ ap (λ (n : ℕ). (shifted + n) % 18446744073709551616) e ∙ add-mod-mod shifted halves 18446744073709551616
       ∙ sym (add-mul-mod_self_right (shifted + halves) over 18446744073709551616) ∙ ap (λ (n : ℕ). n % 18446744073709551616) whole
-
-pub link_none : (n : ℕ) (t : Bool) → t ≡ eqb n NONE → t ≡ true → 18446744073709551615 ≡ link_word n
-unfolding link_word
-link_none n t e f = rw (← e, f)
-
-pub link_some : (n : ℕ) (t : Bool) → t ≡ eqb n NONE → t ≡ false → n ≡ link_word n
-unfolding link_word
-link_some n t e f = rw (← e, f)
 
 -- ---- lists of words
 pub mixed_append : (h : ℕ) (xs ys : List ℕ) → mixed_all h (xs ++ ys) ≡ mixed_all (mixed_all h xs) ys
@@ -91,9 +82,6 @@ module _ (h g r : ℕ) where
   no_verdict j k e f = rw k (then (0 ∷ 0 ∷ 0 ∷ []) (0 ∷ 0 ∷ 0 ∷ []) e f)
 
 module _ (h r : ℕ) where
-  pub verdict_mixed : (j : Judged) (v : Verdict) → j ≡ With v → r ≡ mixed_all h (verdict_six (With v)) → r ≡ mixed_all h (verdict_six j)
-  verdict_mixed j v k e = rw k e
-
   pub altitude_mixed : (a : Altitude) (m : ℤ) (w : ℕ) → a ≡ Metres m → w ≡ of_z w32 m → r ≡ mixed_all h (1 ∷ w ∷ []) → r ≡ mixed_all h (altitude_words a)
   unfolding altitude_words
   altitude_mixed a m w k e f = rw (k, ← e) f
@@ -126,6 +114,3 @@ row_mixed x h a b c d p n r i ea eb ec ep en ed ei er =
     (then a b r (heard_words x.part.heard) (verdict_six x.part.verdict ++ tail) eb
     (then b c r (verdict_six x.part.verdict) tail ec
     (then c d r (p ∷ n ∷ []) (id_words i) ed er))))
-
-pub ends_mixed : (ws : List ℕ) (h a b c r : ℕ) → a ≡ link_word (get_or ws 0 0) → b ≡ link_word (get_or ws 1 0) → c ≡ link_word (get_or ws 2 0) → r ≡ mixed_all h (a ∷ b ∷ c ∷ []) → r ≡ mixed_all h (ends_words (ends_is ws))
-ends_mixed ws h a b c r ea eb ec e = rw (← ea, ← eb, ← ec) e

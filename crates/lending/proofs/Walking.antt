@@ -36,9 +36,6 @@ words_from rs i = rows_words (map row_is (drop i rs))
 abbrev pub RowsLeft : ℕ → List Row → ℕ → ℕ → Type 0
 RowsLeft h rs g i = Left h (rows_words (map row_is rs)) g (words_from rs i)
 
-pub rows_begin : (h : ℕ) (rs : List Row) → RowsLeft h rs h 0
-rows_begin h rs = refl
-
 pub rows_go : (h g r n i : ℕ) (rs : List Row) (x : Row) → n ≡ length rs → i < n → x ≡ get_or rs i blank → r ≡ mixed_all g (row_words (row_is x)) → RowsLeft h rs g i → RowsLeft h rs r (i + 1)
 unfolding rows_words
 rows_go h g r n i rs x e f k m l =
@@ -52,9 +49,6 @@ rows_end h g n i rs e f k l = ends h g (rows_words (map row_is rs)) (words_from 
 -- CELLS
 abbrev pub CellsLeft : ℕ → List ℕ → ℕ → ℕ → Type 0
 CellsLeft h ys g i = Left h ys g (drop i ys)
-
-pub cells_begin : (h : ℕ) (ys : List ℕ) → CellsLeft h ys h 0
-cells_begin h ys = refl
 
 pub cells_go : (h g r w i : ℕ) (ys : List ℕ) → i < length ys → w ≡ get_or ys i 0 → r ≡ mixed g w → CellsLeft h ys g i → CellsLeft h ys r (i + 1)
 unfolding mixed_all
