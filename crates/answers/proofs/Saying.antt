@@ -60,9 +60,6 @@ module _ (f : Fault) (line s : List ℕ) where
   unfolding word_at part_of first_of
   fault_extra n e h = fault_is (fault.Extra n) e (h ∙ ap (λ (t : List ℕ). spell "unexpected field after " then t) (append-nil (name_text n)))
 
-  pub fault_stray : (sep w : ℕ) → f ≡ fault.Stray sep → word_at w ≡ stray_text sep → s ≡ word_at w → s ≡ fault_text f line
-  fault_stray sep w e g h = fault_is (fault.Stray sep) e (h ∙ g)
-
 -- ---- the phrases
 module _ (p : Phrase) (key line : List ℕ) where
   pub fixed_says : (w : ℕ) (s : List ℕ) → p ≡ fixed_of w → (word_at w then word_at 123) ≡ s → phrase_text p key line ≡ s

@@ -16,7 +16,7 @@ use Rattle.readers.specs.declared.Fault.{Fault}
 use Rattle.answers.specs.declared.fault.Blame.{Blame}
 use Rattle.answers.specs.declared.phrase.Phrase.{Phrase}
 use Rattle.answers.specs.Words.{◌then◌, words, word_at}
-use Rattle.answers.specs.Answers.{shown_text, fault_text, bytes_text, key_text, Wrote}
+use Rattle.answers.specs.Answers.{shown_text, fault_text, bytes_text, Wrote}
 use Rattle.answers.specs.Phrases.{value_text, rest_text, phrase_text, blame_text, Blames}
 
 -- what fits is put
@@ -110,9 +110,6 @@ module _ (out key out1 : List ℕ) (n m : ℕ) where
   pub bytes_on : (i : ℕ) (out2 : List ℕ) (r : ℕ) → Wrote out n (bytes_text key i) out1 m → Wrote out1 m (digits 16 2 (get_or key i 0)) out2 r → Wrote out n (bytes_text key (i + 1)) out2 r
   unfolding bytes_text
   bytes_on i out2 r w v = rw (add-one i) (wrote_then out (bytes_text key i) (digits 16 2 (get_or key i 0)) out1 out2 n m r w v)
-
-  pub bytes_all : (i : ℕ) → i ≡ 32 → Wrote out n (bytes_text key i) out1 m → Wrote out n (key_text key) out1 m
-  bytes_all i e w = rw e at w
 
 -- a fault's parts in turn
 pub wrote_fault : (out out1 out2 out3 out4 line : List ℕ) (n i j k r : ℕ) (b : Blame) (f : Fault) → Blames b (fault_text f) → Wrote out n (word_at b.lead) out1 i → Wrote out1 i (word_at b.name) out2 j
