@@ -1,13 +1,13 @@
 -- A tick's answer, put part by part. Facts on lists alone; the laws of parts are crate `answers`'s.
 use mathlib.Core.Path.{◌≡◌, refl, sym, ap, ◌∙◌, subst}
-use Prim.Native.Nat.{ℕ, zero, suc, ◌+◌, ◌*◌, ◌≤◌, ◌<◌}
+use Prim.Native.Nat.{ℕ, zero, suc, ◌+◌, ◌*◌, ◌≤◌}
 use native.Mathlib.Numerals.{add-one}
 use native.Mathlib.Omega.{arith}
 use lib.Dec.{ltb}
 use mathlib.Core.List.{List, [], ◌∷◌, append_assoc}
-use lib.ListN.{length, get_or, take, drop, replicate, length-replicate, get_or-eq_default}
+use lib.ListN.{length, get_or, take, drop, replicate}
 use lib.Seq.{get_or-drop, length-take-le}
-use borrow.Author.Tests.{lt-ltb, le-ltb, ltb-true}
+use borrow.Author.Tests.{ltb-true}
 use Rattle.fields.specs.Text.{spell}
 use Rattle.table.specs.Rows.{Watch}
 use Rattle.table.proofs.Tests.{by_bool}
@@ -23,29 +23,14 @@ use Rattle.turns.specs.Turn.{turn_on}
 use Rattle.lending.specs.Lendings.{Within, lent_to}
 use Rattle.lending.specs.declared.Size.{Size}
 use Rattle.grammar.specs.declared.Line.{Line}
-use Rattle.grammar.specs.declared.Line.TheVariants as line
 use Rattle.answers.specs.Words.{◌then◌}
 use Rattle.answers.specs.Answers.{bytes_text, key_text, Wrote}
 use Rattle.answers.proofs.Writing.{wrote_put, wrote_none, wrote_then, wrote_is, bytes_none, bytes_on}
 use Rattle.rounds.specs.Rounds.{keys_text, turned_text, tick_text, served, turn_text, line_text}
 
--- THE LIST
-pub few_keys : (room : ℕ) → room < 64 → 32 * room ≡ 32 * served room
-few_keys room h = rw (lt-ltb room 64 h)
-
-pub most_keys : (room : ℕ) → 64 ≤ room → 2048 ≡ 32 * served room
-most_keys room h = rw (le-ltb room 64 h)
-
--- a byte past the list's end
-pub no_byte : (list : List ℕ) (i : ℕ) → length list ≤ i → 0 ≡ get_or list i 0
-no_byte list i h = sym (get_or-eq_default list 0 h)
-
--- the rows and cells that are lent
+-- THE ROWS that are lent
 pub rows_front : (z : Size) (xs ys : List ℕ) (a : ℕ) → Within z xs ys → a ≡ words_of_row * z.rows → length (take a xs) ≡ a
 rows_front z xs ys a h e = length-take-le a xs (subst (λ (n : ℕ). n ≤ length xs) (starts_at z.rows ∙ sym e) h.0)
-
-pub cells_front : (z : Size) (xs ys : List ℕ) → Within z xs ys → length (take z.cells ys) ≡ z.cells
-cells_front z xs ys h = length-take-le z.cells ys h.1
 
 -- THE TICK on the first rows and cells of those that are lent
 pub ticked : (z : Size) (xs ys ws list list₁ : List ℕ) (a next k : ℕ) (t : Turned) → a ≡ words_of_row * z.rows
@@ -75,12 +60,6 @@ keys_on out out1 out2 out3 list n m p r i w e f v =
 pub key_none : (out list : List ℕ) (n i : ℕ) → Wrote out n (bytes_text (drop (32 * i) list) 0) out n
 key_none out list n i = bytes_none out (drop (32 * i) list) [] n 0
 
-pub key_all : (out out1 list : List ℕ) (n m i j : ℕ) → j ≡ 32 → Wrote out n (bytes_text (drop (32 * i) list) j) out1 m → Wrote out n (key_text (drop (32 * i) list)) out1 m
-key_all out out1 list n m i j e w = rw e at w
-
-pub keys_all : (out out1 list : List ℕ) (n m i count : ℕ) → i ≡ count → Wrote out n (keys_text i list) out1 m → Wrote out n (keys_text count list) out1 m
-keys_all out out1 list n m i count e w = rw e at w
-
 -- A WORD AND A NUMBER
 pub number_put : (out out1 out2 word : List ℕ) (n m r v : ℕ) → m ≡ put_end out n word → out1 ≡ put_in out n word → r ≡ put_end out1 m (decimal_text v) → out2 ≡ put_in out1 m (decimal_text v) → Wrote out n (word then decimal_text v) out2 r
 number_put out out1 out2 word n m r v a b c d = wrote_then out word (decimal_text v) out1 out2 n m r (wrote_put out word out1 n m a b) (wrote_put out1 (decimal_text v) out2 m r c d)
@@ -105,9 +84,6 @@ named_put out out1 out2 out3 out4 list n m p q r count next c d ec ed w1 w2 w3 a
     (wrote_then out1 y z out2 out4 m p r w2
     (wrote_then out2 (keys_text count list) (spell "\n") out3 out4 p q r w3 (wrote_put out3 (spell "\n") out4 q r a b))))
 
-pub turned_put : (out out1 list : List ℕ) (n r : ℕ) (t u : Turned) → t ≡ u → Wrote out n (turned_text u list) out1 r → Wrote out n (turned_text t list) out1 r
-turned_put out out1 list n r t u e w = rw e w
-
 -- THE LINE
 pub served_few : (room : ℕ) → served room ≤ 64
 served_few room = by_bool (ltb room 64) (λ p. rw p (omega (arith, ltb-true room 64 p))) (λ p. rw p (omega arith))
@@ -121,17 +97,11 @@ module _ (room m : ℕ) (e : m ≡ 32 * served room) where
   pub list_fits : m ≤ 2048
   list_fits = omega (arith, served_few room)
 
-  pub list_front : length {A = ℕ} (take m (replicate 2048 0)) ≡ m
-  list_front = length-take-le {A = ℕ} m (replicate 2048 0) (subst (λ (n : ℕ). m ≤ n) (sym (length-replicate {A = ℕ} 2048 0)) list_fits)
-
   pub turn_put : (out out1 list₁ : List ℕ) (n r : ℕ) (t : Turned) (w : Watch Part) (next k : ℕ) → record { answer = t; list = list₁ } ≡ turn_on form w next k (take m (replicate 2048 0)) → Wrote out n (turned_text t list₁) out1 r → Wrote out n (turn_text w next k room) out1 r
   unfolding turn_text
   turn_put out out1 list₁ n r t w next k s v =
       wrote_is out (turned_text t list₁) (tick_text (turn_on form w next k (replicate (32 * served room) 0))) out1 n r
       (ap tick_text (s ∙ ap (turn_on form w next k) (zeros m 2048 list_fits ∙ ap (λ (x : ℕ). replicate x 0) e))) v
-
-pub line_turn : (out out1 : List ℕ) (n r : ℕ) (w : Watch Part) (l : Line) (next k room : ℕ) → l ≡ line.Turn next k room → Wrote out n (turn_text w next k room) out1 r → Wrote out n (line_text w l) out1 r
-line_turn out out1 n r w l next k room e v = rw e v
 
 pub line_none : (out : List ℕ) (n : ℕ) (w : Watch Part) (l m : Line) → l ≡ m → line_text w m ≡ [] → Wrote out n (line_text w l) out n
 line_none out n w l m e f = rw (e, f) (wrote_none out n)
