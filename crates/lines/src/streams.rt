@@ -1,5 +1,7 @@
-// A reader and a writer, each with the first error that it gave. Nothing more is read or written after an error; whoever runs the program asks for it at the end.
-ghost use Rattle.std.specs.Prelude.{◌≡◌, ◌≤◌, length, IsNone, IsSome, IfNone, IsOk};
+// A reader and a writer, each with the first error that it gave. After an error nothing more is read or written, and whoever runs the program asks for it at the end.
+ghost use Rattle.std.specs.Prelude.{◌≡◌, ◌<◌, ◌≤◌, true, false, length, take, is_err};
+ghost use Rattle.std.specs.Io.KnownBytes.{Appends, Consumes, IsAtEnd};
+ghost use Rattle.lines.specs.Streams.{left_in, held_by, source_failed, sink_failed};
 
 use std::io::{Error, Read, Result, Write};
 
@@ -17,7 +19,8 @@ pub struct Sink<W> {
 
 impl<R: Read> Source<R> {
     pub fn new(reader: R) -> Source<R>
-        ensures { IsNone result.failed }
+        ensures left { left_in R.remaining result ≡ R.remaining reader }
+        ensures sound { source_failed result ≡ false }
     {
         Source {
             reader,
@@ -28,7 +31,9 @@ impl<R: Read> Source<R> {
     // How many bytes came into the buffer: none at the end of the input, and none at an error or after one.
     pub fn read(&mut self, buf: &mut [u8]) -> usize
         ensures within { result ≤ length buf.new }
-        ensures failed { IsSome self.old.failed → (result ≡ 0) × (buf.new ≡ buf.old) × IsSome self.new.failed }
+        ensures bytes { Consumes (left_in R.remaining self.old) (left_in R.remaining self.new) (take result buf.new) }
+        ensures none { result ≡ 0 → 0 < length buf.new → source_failed self.new ≡ false → IsAtEnd (left_in R.remaining self.new) }
+        ensures after { source_failed self.old ≡ true → source_failed self.new ≡ true }
     {
         if self.failed.is_some() {
             return 0;
@@ -46,7 +51,7 @@ impl<R: Read> Source<R> {
     pub fn end(self) -> Result<()>
     where
         R: Drop,
-        ensures { IsNone self.failed → IsOk result }
+        ensures { is_err result ≡ source_failed self }
     {
         match self.failed {
             Some(e) => Err(e),
@@ -57,7 +62,8 @@ impl<R: Read> Source<R> {
 
 impl<W: Write> Sink<W> {
     pub fn new(writer: W) -> Sink<W>
-        ensures { IsNone result.failed }
+        ensures held { held_by W.contents result ≡ W.contents writer }
+        ensures sound { sink_failed result ≡ false }
     {
         Sink {
             writer,
@@ -67,7 +73,8 @@ impl<W: Write> Sink<W> {
 
     // Writes all the bytes, unless an error came before.
     pub fn write(&mut self, bytes: &[u8])
-        ensures { IsSome self.old.failed → IsSome self.new.failed }
+        ensures bytes { sink_failed self.new ≡ false → Appends (held_by W.contents self.old) (held_by W.contents self.new) bytes.now }
+        ensures after { sink_failed self.old ≡ true → self.new ≡ self.old }
     {
         if self.failed.is_some() {
             return;
@@ -81,7 +88,7 @@ impl<W: Write> Sink<W> {
     pub fn end(self) -> Result<()>
     where
         W: Drop,
-        ensures { IsNone self.failed → IsOk result }
+        ensures { is_err result ≡ sink_failed self }
     {
         match self.failed {
             Some(e) => Err(e),
