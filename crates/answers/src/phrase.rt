@@ -105,6 +105,7 @@ fn state(s: CheckState) -> Phrase
 }
 
 // A claim's generation, and the key that it pushed out, if any.
+#[tactic(auto, using(crate::proofs::Saying::claim_pushed, crate::proofs::Saying::claim_kept), unfolding(crate::specs::Phrases::Phrases))]
 fn claimed(generation: u32, pushed: bool) -> Phrase
     ensures { Phrases result (λ key line. claim_text generation pushed key) }
 {
