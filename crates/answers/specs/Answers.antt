@@ -1,4 +1,4 @@
--- What a line is answered, as text (DESIGN section 6: 'Answers'). Definitions only.
+-- What a line is answered, as text (README, 'A list of calls'). Definitions only.
 use Rattle.std.specs.Prelude.{ℕ, zero, suc, ◌+◌, ◌≤◌, ◌≡◌, Bool, true, false, cond, List, [], length, get_or, eqb, leb}
 use Rattle.std.specs.Float.{binary64}
 use Rattle.std.specs.Float.Ieee.{to_bits}

@@ -1,4 +1,4 @@
--- The words of the answers (DESIGN section 6: 'A list of calls, as text'), as bytes. Definitions only.
+-- The words of the answers (README, 'A list of calls'), as bytes. Definitions only.
 use Rattle.std.specs.Prelude.{ℕ, List, ◌++◌}
 use Rattle.fields.specs.Text.{spell, first_of, part_of}
 use Rattle.readers.specs.declared.Name.{Name}
@@ -9,7 +9,7 @@ infixr 40 ◌then◌
 abbrev pub ◌then◌ : List ℕ → List ℕ → List ℕ
 s then t = s ++ t
 
--- the fields, as DESIGN names them
+-- the fields, as README names them
 abbrev pub name_text : Name → List ℕ
 name_text name.A = spell "A"
 name_text name.Address = spell "ADDRESS"

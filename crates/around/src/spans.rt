@@ -1,6 +1,6 @@
 // Around a place, row by row. In a row the cells within 25 km of a place stand side by side, and so do those of one sector: of each such span
 // two counts of the cells heard before its ends tell how many it holds. So a place asks 11 rows and not 1,600 cells.
-ghost use Rattle.std.specs.Prelude.{◌≡◌, cond, List, ℕ, ◌+◌, ◌-◌, ◌*◌, ◌/◌, ◌%◌, ◌≤◌, ◌<◌, min, leb};
+ghost use Rattle.std.specs.Prelude.{◌≡◌, cond, List, ℕ, ◌+◌, ◌*◌, ◌%◌, ◌≤◌, ◌<◌, leb};
 ghost use Rattle.std.specs.Int.Bits.{bit_or};
 ghost use Rattle.std.specs.Int.Count.{ones};
 ghost use Rattle.cells.specs.Cells.{bits_of, occupied_word};

@@ -1,4 +1,4 @@
--- What a line comes to, its number, and its answer in the buffer. No contract can say what is read or written.
+-- What a line comes to, its number, and its answer in the buffer. What is read and written crate `lines` says of a source and a sink.
 use Rattle.std.specs.Prelude.{◌≡◌, ℕ, ◌+◌, ◌%◌, ◌^◌, cond, List, length, nat_lt}
 use Rattle.print.specs.Print.{put_in}
 use Rattle.lines.specs.Lines.{taken_of, Next, bytes_of}

@@ -1,5 +1,5 @@
 // Rows lent as plain numbers: 25 words of 64 bits each, so that they cross to C and Rust. A row is opened from its words and closed into them, field by
-// field with crate `packing`; nothing here asks for anything: words that no row was closed as open as a row that question 2 refuses.
+// field with crate `packing`. `count`, `outside`, `get` and `put` ask nothing of the slice: words that no row was closed as open as a row that question 2 refuses.
 #![tactic(auto)]
 
 ghost use Rattle.std.specs.Prelude.{◌≡◌, ◌&&◌, ◌∷◌, ◌≤◌, ◌+◌, ◌*◌, leb, length, set, get_or};

@@ -144,7 +144,7 @@ in_range edge a b km p h =
     let k = by_is (lt (allowance a b) edge) (sub binary64 edge (allowance a b)) km h in
     subst (λ (x : Float). T (distance x)) k.1 (excess edge (allowance a b) p (allowance_plus a b) k.0)
 
--- ---- so every excess is one of the values that `proofs/Order.antt` puts in order
+-- ---- so every excess is one of the values that `rank/proofs/Order.antt` puts in order
 
 distance_plain : (x : Float) → T (distance x) → T (plain x)
 unfolding distance

@@ -2,7 +2,7 @@
 // its links or its part alone. A row with a word out of range is opened whole, and stored whole.
 #![tactic(auto)]
 
-ghost use Rattle.std.specs.Prelude.{◌≡◌, true, ◌&&◌, ◌<◌, ◌≤◌, eqb, length, set, get_or, drop};
+ghost use Rattle.std.specs.Prelude.{◌≡◌, true, ◌<◌, ◌≤◌, eqb, length, set, get_or, drop};
 ghost use Rattle.table.specs.Machine.{same};
 ghost use Rattle.heard.specs.Heard.{site_fits};
 ghost use Rattle.verdicts.specs.Verdict.{verdict_fits};
@@ -15,7 +15,6 @@ ghost use Rattle.packing.specs.Words.{most64, key_of, site_of, verdict_of};
 
 use measures::degrees;
 use receiver::Part;
-use rows::Row;
 
 // A row's links.
 #[derive(Clone, Copy)]

@@ -100,26 +100,26 @@ pub start_odd : (b : Bool) → b ≡ false → (1672 ≡ start_of b) × (1672 �
 start_odd b e = (rw e (sym half_is), omega (arith, half_is))
 
 -- A POSITION heard around the site
-module _ (h : Heard) (s : Site) (p : Position) (id : ℕ) (e : Bool) (i : EpochId) (idIs : id ≡ epoch_of p.at_ms) (evenIs : e ≡ is_even id) (heldIs : i ≡ held_id e h) where
+module _ (h : Heard) (s : Site) (p : Position) (id : ℕ) (e : Bool) (i : EpochId) (id_is : id ≡ epoch_of p.at_ms) (even_is : e ≡ is_even id) (held_is : i ≡ held_id e h) where
   pub late_is : (b : Bool) → b ≡ not_older i id → b ≡ false → ((l : List ℕ) → hearing_is Hearings.Late l ≡ on_site h l s p (epoch_of p.at_ms)) × HearingFits Hearings.Late
   late_is b q r = ((λ l. go l), tt)
     where
       go : (l : List ℕ) → refuse 6 ≡ on_site h l s p (epoch_of p.at_ms)
-      go l = rw (← idIs, ← evenIs, ← heldIs, sym q ∙ r)
+      go l = rw (← id_is, ← even_is, ← held_is, sym q ∙ r)
 
   pub counted_is : (b : Bool) (k : Heard) (n : Bool) (st pl low bit : ℕ) → b ≡ not_older i id → b ≡ true → k ≡ with_id e id h → n ≡ not (holds_id i id) → (st ≡ start_of e) × (st ≤ half) →
       (pl ≡ placed s.lat s.lon p.lat p.lon) × (pl < 1672) → low ≡ bucket_of p.feet → bit ≡ aircraft_bit p.address →
       ((l : List ℕ) → hearing_is (Hearings.In (record { heard = k; newer = n; start = st; place = pl; low = low; bit = bit })) l ≡ on_site h l s p (epoch_of p.at_ms))
       × HearingFits (Hearings.In (record { heard = k; newer = n; start = st; place = pl; low = low; bit = bit }))
   unfolding counting_is half_before counted_at emptied
-  counted_is b k n st pl low bit q t kIs nIs stIs plIs lowIs bitIs = ((λ l. go l), (stIs.1, omega (arith, plIs.1, half_is)))
+  counted_is b k n st pl low bit q t k_is n_is st_is pl_is lowIs bitIs = ((λ l. go l), (st_is.1, omega (arith, pl_is.1, half_is)))
     where
       swap : {A : Type 0} (c : Bool) (x y : A) → cond (not c) x y ≡ cond c y x
       swap true x y = refl
       swap false x y = refl
 
       go : (l : List ℕ) → hearing_is (Hearings.In (record { heard = k; newer = n; start = st; place = pl; low = low; bit = bit })) l ≡ on_site h l s p (epoch_of p.at_ms)
-      go l = rw (← idIs, ← evenIs, ← heldIs, sym q ∙ t, kIs, nIs, stIs.0, plIs.0, lowIs, bitIs, swap)
+      go l = rw (← id_is, ← even_is, ← held_is, sym q ∙ t, k_is, n_is, st_is.0, pl_is.0, lowIs, bitIs, swap)
 
 -- the call
 pub heard_outside : (h : Heard) (p : Position) (b : Bool) → b ≡ in_degrees p.lat p.lon → b ≡ false → ((l : List ℕ) → hearing_is Hearings.Outside l ≡ positioned h l p) × HearingFits Hearings.Outside

@@ -1,4 +1,4 @@
--- What the code's answers say: for each case this paper's number, or the row's part and cells and what is said. Definitions only.
+-- What the code's answers say: for each case 01's number, or the row's part and cells and what is said. Definitions only.
 use Rattle.std.specs.Prelude.{ℕ, ◌+◌, ◌<◌, ◌≤◌, cond, List, replicate, slice_index, slice_set}
 use Rattle.std.proofs.lemmas.List.Edits.{sets}
 use Rattle.table.specs.Machine.{Outcome, refuse, accept}

@@ -27,7 +27,7 @@ use Rattle.around.specs.Marks.{in_sector, sectors_in, cell_in, bin_in, outside_o
 use Rattle.near_field.specs.declared.Judgment.TheVariants.{Unjudged, Wrong}
 use Rattle.near_field.specs.declared.Evidence.TheVariants.{NothingNear}
 use Rattle.nearest.specs.Nothing.{cell_place, bin_place, heard, places_heard, places, nothing_near}
-use Rattle.nearest.proofs.Cases.{p10_off, p10_few, nearest_skipped as places-skipped}
+use Rattle.nearest.proofs.Cases.{p10_off, p10_few, nearest_skipped as places_skipped}
 use Rattle.nearest.specs.declared.Empty.TheVariants.{Off, Heard}
 use Rattle.judge.specs.Judging.{if_outside, judge_cells, judge_row, judge_of}
 use Rattle.judge.proofs.Few.{pass_one, pass_two, skip_place, skip_count, none_past, low_free}
@@ -96,10 +96,10 @@ few_sectors : (f g : ℕ → Bool) → table f 8 ≡ table g 8 → leb (sectors_
 few_sectors f g e h = ap (λ (marks : List Bool). leb (sectors_in marks) 4) e ∙ h
 
 -- sector 0, and sectors 0 and 1
-abbrev in_one_lem : ℕ → Bool
-in_one_lem k = ltb 0 (cond (eqb 0 k) 1 0)
+abbrev in_one : ℕ → Bool
+in_one k = ltb 0 (cond (eqb 0 k) 1 0)
 
-one_sector : leb (sectors_in (table in_one_lem 8)) 4 ≡ true
+one_sector : leb (sectors_in (table in_one 8)) 4 ≡ true
 unfolding sectors_in table pass
 one_sector = refl
 
@@ -164,8 +164,8 @@ module _ (n bits : ℕ) (few : suc n ≤ 255) (fit : bits < 2 ^ 16) where
   outside10 : outside_of grid10 far10.cells ≡ true
   unfolding outside_of
   outside10 =
-      few_sectors (λ (k : ℕ). some (cell_in grid10 k) 1600 || some (bin_in far10.cells k) 72) in_one_lem
-      (table_same (λ (k : ℕ). some (cell_in grid10 k) 1600 || some (bin_in far10.cells k) 72) in_one_lem 8
+      few_sectors (λ (k : ℕ). some (cell_in grid10 k) 1600 || some (bin_in far10.cells k) 72) in_one
+      (table_same (λ (k : ℕ). some (cell_in grid10 k) 1600 || some (bin_in far10.cells k) 72) in_one 8
       (λ k l. rw (no_cells_lem k, bin_sector far10 (heard_word (suc n) bits) n bin_here (word (suc n) bits few fit).count (word (suc n) bits few fit).low bin_free k))) one_sector
 
   past10 : (site : Site) → No ≡ past_horizon site far10
@@ -275,7 +275,7 @@ module _ (bits : ℕ) (fit : bits < 2 ^ 16) where
 
   off_125 : nothing_near grid_n far_n ≡ Off 125
   off_125 =
-      places-skipped grid_n far_n places_near (ap count_of near_820 ∙ count_most) (ap count_of near_860 ∙ count_one) (ap count_of far_here ∙ count_one)
+      places_skipped grid_n far_n places_near (ap count_of near_820 ∙ count_most) (ap count_of near_860 ∙ count_one) (ap count_of far_here ∙ count_one)
 
   -- (1,1) lies in sector 1, (1,3) in sector 0
   cell_sectors : (k : ℕ) → how_many (cell_in grid_n k) 1600 ≡ cond (eqb 0 k) (cond (eqb 1 k) 1 0 + 1) (cond (eqb 1 k) 1 0)

@@ -10,7 +10,7 @@ use lib.Ieee.{Float}
 use Rattle.measures.specs.Steps.{distance}
 use Rattle.floats.specs.declared.horizon.Past.{Past}
 use Rattle.floats.specs.declared.horizon.Past.TheVariants.{By, No}
-use Rattle.measures.proofs.Quotient.{off_step as excess-step}
+use Rattle.measures.proofs.Quotient.{off_step as excess_step}
 use Rattle.view.specs.View.{kept, grid_of, far_of}
 use Rattle.view.specs.declared.EpochId.{EpochId}
 use Rattle.view.specs.declared.Far.{Far}
@@ -78,7 +78,7 @@ empty_said grid far false d e = let z : ◌≡◌ {A = ℕ} 0 1 = cc in absurd (
 off_said : (e : Empty) (x : Float) → OffStep e → T (distance x) → Step (horizon_off e x)
 unfolding horizon_off
 off_said (Off km) x s h = s km refl
-off_said Heard x s h = as_step (excess-step x h)
+off_said Heard x s h = as_step (excess_step x h)
 
 -- ---- joined in the judging's order
 after_said : (e : Empty) (grid : List ℕ) (far : Far) (out : Bool) → OffStep e → Said (after_horizon e grid far out)

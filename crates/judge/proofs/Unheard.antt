@@ -30,10 +30,10 @@ none_heard place words n free = pass_all _ [] n (λ i l x. skip_place (get_or wo
 -- ---- an empty grid and empty bins
 module _
     (site : Site) (grid : List ℕ) (far : Far) (grid_free : (i : ℕ) → i < 1600 → get_or grid i 0 ≡ empty_word)
-    (bins-free : (j : ℕ) → j < 72 → get_or far.cells j 0 ≡ empty_word) where
+    (bins_free : (j : ℕ) → j < 72 → get_or far.cells j 0 ≡ empty_word) where
   no_places : places_heard grid far ≡ []
   unfolding places_heard
-  no_places = rw (none_heard (cell_place grid) grid 1600 grid_free, none_heard (bin_place far.cells) far.cells 72 bins-free)
+  no_places = rw (none_heard (cell_place grid) grid 1600 grid_free, none_heard (bin_place far.cells) far.cells 72 bins_free)
 
   heard_all : nothing_near grid far ≡ Heard
   unfolding nothing_near nothing_near_in positions_in total
@@ -51,7 +51,7 @@ module _
   pub unheard : Unjudged ≡ judge_cells site grid far
   unheard =
       by_none site grid far No Heard (outside_of grid far.cells) refl
-      (sym (none_outside (outside_of grid far.cells)) ∙ ap (if_outside (outside_of grid far.cells)) (sym heard_all)) (none_past site far (λ j l. low_free (get_or far.cells j 0) (bins-free j l))) Unjudged refl
+      (sym (none_outside (outside_of grid far.cells)) ∙ ap (if_outside (outside_of grid far.cells)) (sym heard_all)) (none_past site far (λ j l. low_free (get_or far.cells j 0) (bins_free j l))) Unjudged refl
       (after_few Heard grid far (outside_of grid far.cells) 0 refl (sym no_place_lem) (omega arith))
 
 -- ---- neither half

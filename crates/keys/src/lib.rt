@@ -1,7 +1,7 @@
 // A key of a list of calls, read from a slice of bytes by its hex digits.
 #![tactic(auto)]
 
-ghost use Rattle.std.specs.Prelude.{◌≡◌, Bool, ◌<◌, ◌≤◌, ◌%◌, length};
+ghost use Rattle.std.specs.Prelude.{◌≡◌, ◌<◌, ◌≤◌, ◌%◌, length};
 ghost use Rattle.numbers.specs.Numbers.{digit_of, all_digits};
 ghost use Rattle.keys.specs.Keys.{is_key, hex_at, key_byte, key_bytes, key_of};
 

@@ -1,4 +1,4 @@
--- The digest of a watch (DESIGN 6, 'Digest'). Definitions only.
+-- The digest of a watch (README, 'A list of calls'). Definitions only.
 use Rattle.std.specs.Prelude.{ℕ, ◌-◌, ◌*◌, ◌%◌, ◌^◌, cond, List, [], ◌∷◌, ◌++◌, length, ◌==◌, bit_xor}
 use Rattle.table.specs.Rows as T
 use Rattle.table.specs.Rows.{NONE, Watch}

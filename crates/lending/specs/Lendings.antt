@@ -1,4 +1,4 @@
--- A watch in a lent piece of memory, and the lines that write it word by word (DESIGN 6, 'A lent watch'). Definitions only.
+-- A watch in a lent piece of memory, and the lines that write it word by word (README, 'A list of calls'). Definitions only.
 use Rattle.std.specs.Prelude.{◌≡◌, ℕ, ◌*◌, ◌≤◌, cond, List, [], ◌∷◌, ◌++◌, length, take, drop, replicate, nat_le, nat_lt, slice_set}
 use Rattle.table.specs.Machine as M
 use Rattle.table.specs.Rows.{NONE, Watch}

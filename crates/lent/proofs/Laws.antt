@@ -18,7 +18,7 @@ use Rattle.moves.specs.declared.Answer.{Answer}
 use Rattle.moves.specs.declared.Move.{Move}
 use Rattle.moves.specs.declared.Count.{Count}
 use Rattle.moves.specs.Answers.{saying, freeing}
-use Rattle.moves.specs.Moves.{staying, seat_move, ClaimedRow, by_look_lem, judged_as, judged_rows, remove_move, removed_rows}
+use Rattle.moves.specs.Moves.{staying, seat_move, ClaimedRow, by_look, judged_as, judged_rows, remove_move, removed_rows}
 use Rattle.moves.proofs.Entries.{judge_none, judge_kept, remove_none, remove_kept}
 use Rattle.lent.specs.Refusal.{is_refusal, Untouched}
 use Rattle.scans.specs.declared.Key.{Key}
@@ -56,7 +56,7 @@ done_words r l n q = accepted r l n (ap is_refusal q)
 
 -- A CLAIM WHOSE LOOK IS UNFIT changes nothing
 pub claim_unfit : (xs : List Row) (e : Ends) (l : Look) (k : Key) (site : Claimed) (m : Move) (t : Bool) → t ≡ is_unfit l → t ≡ true → m ≡ staying e (saying (Wd.Refused (number_of l))) → ClaimedRow xs e l k site m xs
-claim_unfit xs e l k site m t p q d = by_look_lem (sym p ∙ q) d refl
+claim_unfit xs e l k site m t p q d = by_look (sym p ∙ q) d refl
 
 -- JUDGING, TAKE-OUT, DROP-OLDEST: one part each of the ways out of crate `moves`
 module _ (l : Look) (now : ℕ) (j : Judgment) (t : Bool) (test : t ≡ is_no l) where

@@ -1,4 +1,4 @@
--- Where a line lies in the buffer. No contract can say what is read, only what is done with as many bytes as came.
+-- Where a line lies in the buffer. What is done with as many bytes as came; `Streams` says which a source gives.
 use Rattle.std.specs.Prelude.{ℕ, ◌≤◌, ◌+◌, ◌-◌, ◌≡◌, Bool, true, false, cond, List, [], length, take, drop, eqb, ltb}
 use Rattle.fields.specs.Text.{first_of, part_of}
 use Rattle.lines.specs.declared.Input.{Input}

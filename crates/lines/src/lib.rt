@@ -1,7 +1,7 @@
 // An input, line by line, through a buffer that the caller lends.
 #![tactic(auto)]
 
-ghost use Rattle.std.specs.Prelude.{◌≡◌, ◌≤◌, ◌-◌};
+ghost use Rattle.std.specs.Prelude.{◌≡◌, ◌≤◌};
 ghost use Rattle.lines.specs.Lines.{Within, start_of, line_of, last_of, kept_of, taken_of, Refilled, Next, bytes_of};
 
 mod streams;

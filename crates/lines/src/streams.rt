@@ -33,7 +33,7 @@ impl<R: Read> Source<R> {
         ensures within { result ≤ length buf.new }
         ensures bytes { Consumes (left_in R.remaining self.old) (left_in R.remaining self.new) (take result buf.new) }
         ensures none { result ≡ 0 → 0 < length buf.new → source_failed self.new ≡ false → IsAtEnd (left_in R.remaining self.new) }
-        ensures after { source_failed self.old ≡ true → source_failed self.new ≡ true }
+        ensures after { source_failed self.old ≡ true → (result ≡ 0) × (self.new ≡ self.old) }
     {
         if self.failed.is_some() {
             return 0;

@@ -1,5 +1,5 @@
--- One law for each way out of an entry: what its calls came to is the definitions' step. Facts on lists alone; the walk of an entry gives the
--- calls' equations in order.
+-- One law for each way out of a call: what its callees came to is the definitions' step. Facts on lists alone; crates `watch` and `lent` cite them
+-- with their callees' contracts.
 use mathlib.Core.Path.{◌≡◌, refl, sym, ◌∙◌, ap, ap₂, subst}
 use Prim.Native.Nat.{ℕ, ◌≤◌, ◌+◌, ◌*◌}
 use mathlib.Core.Bool.{Bool, true, false, cond, ◌||◌}
@@ -35,7 +35,7 @@ use Rattle.moves.specs.declared.Answer.{Answer}
 use Rattle.moves.specs.Answers.{outcome, saying, freeing, check_answer, hear_no}
 use Rattle.moves.specs.declared.Move.{Move}
 use Rattle.moves.specs.declared.Count.{Count}
-use Rattle.moves.specs.Moves.{staying, seat_move, ClaimedRow, by_look_lem, by_site, seated, counted_at, HeardRow, nobody, turned_down, placed, judged_as, judged_rows, checked_as, remove_move, removed_rows, oldest_look}
+use Rattle.moves.specs.Moves.{staying, seat_move, ClaimedRow, by_look, by_site, seated, counted_at, HeardRow, nobody, turned_down, placed, judged_as, judged_rows, checked_as, remove_move, removed_rows, oldest_look}
 use Rattle.moves.proofs.Looked as Look'
 use Rattle.moves.proofs.Steps as Step'
 use Rattle.scans.specs.declared.Key.{Key}
@@ -229,7 +229,7 @@ module _ (xs : List Row) (ys ws : List ℕ) (e : Ends) (key : Key) (l : Look) (e
       go z oz f g = removed z (drop_oldest (watch_is xs ys ws)) m zs cs vs r (p.0 ∙ ap (remove_move xs e) oz, p.1 ∙ ap (removed_rows xs e) oz) c v a f g
 
   pub claim_room : (site : Claimed) (m : Move) (zs : List Row) → ClaimedRow xs e l key site m zs → RoomAt m.clear (length ys)
-  claim_room site m zs (by_look_lem f p q) = subst (λ (x : Move). RoomAt x.clear (length ys)) (sym p) tt
+  claim_room site m zs (by_look f p q) = subst (λ (x : Move). RoomAt x.clear (length ys)) (sym p) tt
   claim_room site m zs (by_site c f ec t p q) = subst (λ (x : Move). RoomAt x.clear (length ys)) (sym p) tt
   claim_room site m zs (seated c f ec t p q) = subst (λ (x : Move). RoomAt x.clear (length ys)) (sym p) (go ((seat_of xs e l part).made || has_moved c))
     where
@@ -241,7 +241,7 @@ module _ (xs : List Row) (ys ws : List ℕ) (e : Ends) (key : Key) (l : Look) (e
       go false = tt
 
   pub claim_so : (site : Claimed) (m : Move) (zs : List Row) (cs vs : List ℕ) (r : Answer) → ClaimedRow xs e l key site m zs → cs ≡ emptied_at ys m.clear → ends_is vs ≡ ends_of m.ends → r ≡ m.answer → outcome r zs cs vs ≡ stepped (claim site)
-  claim_so site m zs cs vs r (by_look_lem f p q) c v a = Step'.stayed_put xs ys ws e key l ends_are seen (stepped (claim site)) (number_of l) m zs cs vs r (Look'.unfit_step xs ys ws e key l ends_are seen (claim site) f) p q c v a
+  claim_so site m zs cs vs r (by_look f p q) c v a = Step'.stayed_put xs ys ws e key l ends_are seen (stepped (claim site)) (number_of l) m zs cs vs r (Look'.unfit_step xs ys ws e key l ends_are seen (claim site) f) p q c v a
   claim_so site m zs cs vs r (by_site d f ec t p q) c v a = Step'.stayed_put xs ys ws e key l ends_are seen (stepped (claim site)) 4 m zs cs vs r (Step'.claim_out xs ys ws e key l ends_are seen site d ec f t) p q c v a
   claim_so site m zs cs vs r (seated d f ec t p q) c v a = Step'.claimed_in xs ys ws e key l ends_are seen site d ec f t zs cs vs r q (c ∙ ap (λ (x : Move). emptied_at ys x.clear) p) (v ∙ ap (λ (x : Move). ends_of x.ends) p) (a ∙ ap (λ (x : Move). x.answer) p)
 

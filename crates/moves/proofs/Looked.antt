@@ -1,8 +1,8 @@
 -- What a look tells of the definitions' step: a call goes by the first question that is answered no, or by the row that was found. Facts on lists
 -- alone, of a watch whose ends were read (`ends_are`) and that was looked at (`seen`).
---     stepped-is, at_row   a call is decided by the look; by the row's part and cells where one was found
---     no_step, unfit-step  the refusals 1 to 3
---     held-site, fit-site, look-room, seat-room   what the next functions ask: a site within degrees, a row's cells among all
+--     stepped_is, at_row   a call is decided by the look; by the row's part and cells where one was found
+--     no_step, unfit_step  the refusals 1 to 3
+--     held_site, fit_site, look_room, seat_room   what the next functions ask: a site within degrees, a row's cells among all
 use mathlib.Core.Path.{◌≡◌, refl, sym, ◌∙◌, ap, ap₂, subst}
 use Prim.Native.Nat.{ℕ, zero, suc, ◌<◌, ◌≤◌, ◌+◌, ◌*◌}
 use native.Mathlib.Omega.{arith}

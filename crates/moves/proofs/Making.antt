@@ -50,7 +50,7 @@ fresh_yes xs ys ws t zs cs vs d r e h z c q k v =
     let s : question1 form (watch_is xs ys ws) ≡ true = sizes_so xs ys ws ∙ o in
     let b = and_2 (leb 1 (length xs)) (leb (length xs) most && eqb (length ys) (width * length xs)) o in
     let some_row : 1 ≤ length xs = leb-true 1 (length xs) (and_1 (leb 1 (length xs)) (leb (length xs) most && eqb (length ys) (width * length xs)) o) in
-    let most-rows : length xs ≤ 4096 = leb-true (length xs) most (and_1 (leb (length xs) most) (eqb (length ys) (width * length xs)) b) in
+    let most_rows : length xs ≤ 4096 = leb-true (length xs) most (and_1 (leb (length xs) most) (eqb (length ys) (width * length xs)) b) in
     let many : length ys ≡ width * length xs = eqb-true (length ys) (width * length xs) (and_2 (leb (length xs) most) (eqb (length ys) (width * length xs)) b) in
-    let made : watch_is zs cs vs ≡ fresh_watch form (length (map row_is xs)) = rw (rows_long_lem xs, k, q, z, c, many, cells_are (length xs), rows_are (length xs) 0 (length xs) (omega arith) most-rows, eqb_no (length xs) 0 (λ x. omega (arith, x, some_row))) in
+    let made : watch_is zs cs vs ≡ fresh_watch form (length (map row_is xs)) = rw (rows_long_lem xs, k, q, z, c, many, cells_are (length xs), rows_are (length xs) 0 (length xs) (omega arith) most_rows, eqb_no (length xs) 0 (λ x. omega (arith, x, some_row))) in
     ap₂ {C = Step (Watch Part) Out} (λ (x : Watch Part) (y : Answer). record { next = x; answer = answer_is y }) made v ∙ sym (rw s)

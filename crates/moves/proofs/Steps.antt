@@ -232,7 +232,7 @@ module _ (xs : List Row) (ys ws : List ℕ) (e : Ends) (key : Key) (l : Look) (e
         abbrev seat : Seat
         seat = seat_of xs e l (claim_part old c)
 
-        module _ (zs : List Row) (cs vs : List ℕ) (r : Answer) (ez : zs ≡ seated_rows xs e l key (claim_part old c)) (c-is : cs ≡ emptied_at ys (clear_of seat c)) (v : ends_is vs ≡ ends_of seat.ends) (a : r ≡ claim_answer seat c) where
+        module _ (zs : List Row) (cs vs : List ℕ) (r : Answer) (ez : zs ≡ seated_rows xs e l key (claim_part old c)) (c_is : cs ≡ emptied_at ys (clear_of seat c)) (v : ends_is vs ≡ ends_of seat.ends) (a : r ≡ claim_answer seat c) where
           again : is_no l ≡ false → outcome r zs cs vs ≡ stepped (claim site)
           again n₀ =
               step_of (exits ∙ marked n₀ (claim_part old c) cells₀) (ap answer_is (a ∙ ap (λ (x : Seat). claim_answer x c) seat_is))
@@ -257,7 +257,7 @@ module _ (xs : List Row) (ys ws : List ℕ) (e : Ends) (key : Key) (l : Look) (e
               cleared = by_bool (has_moved c) (λ p. rw p) (λ p. rw p)
 
               cells_are : cs ≡ sets ys (width * at_of l) cells₀
-              cells_are = c-is ∙ ap (λ (x : Seat). emptied_at ys (clear_of x c)) seat_is ∙ cleared ∙ cells_back ys (at_of l) c (room n₀)
+              cells_are = c_is ∙ ap (λ (x : Seat). emptied_at ys (clear_of x c)) seat_is ∙ cleared ∙ cells_back ys (at_of l) c (room n₀)
 
               exits : watch_is zs cs vs ≡ watch_of (marked_rows xs e (at_of l) (claim_part old c)) (sets ys (width * at_of l) cells₀) (marked_ends xs e (at_of l) (claim_part old c))
               exits = rw (v ∙ ap (λ (x : Seat). ends_of x.ends) seat_is, rows_are, cells_are)
@@ -300,7 +300,7 @@ module _ (xs : List Row) (ys ws : List ℕ) (e : Ends) (key : Key) (l : Look) (e
               cells_once = by_bool (eqb e.free NONE) (λ p. rw p (twice ys e.head empty_wide (Look'.cells_room xs ys ws e key l ends_are seen fit e.head (Look'.oldest_row xs ys ws e key l ends_are seen fit p)))) (λ p. rw p)
 
               cells_are : cs ≡ sets cells₁ (width * (room_ends xs e).free) empty_cells
-              cells_are = c-is ∙ ap (λ (x : Seat). emptied_at ys (clear_of x c)) seat_is ∙ sym cells_once
+              cells_are = c_is ∙ ap (λ (x : Seat). emptied_at ys (clear_of x c)) seat_is ∙ sym cells_once
 
               room_long : length (room_rows xs e) ≤ NONE
               room_long = by_bool (eqb e.free NONE) (λ p. rw (p, length-set) (omega (arith, unlinked_long xs e.head, small'))) (λ p. rw p small')

@@ -1,4 +1,4 @@
--- What an answer says, and what a call comes to: for each word its number and its values. Definitions only.
+-- What an answer says, and what a call comes to: for each word the documents' number and its values (01, 'Seven calls, seven questions'). Definitions only.
 use Rattle.std.specs.Prelude.{ℕ, false, cond, List}
 use Rattle.std.proofs.Math.Option.{Option, none, some}
 use Rattle.table.specs.Machine as M

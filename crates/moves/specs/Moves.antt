@@ -64,7 +64,7 @@ seat_move s c = record { ends = s.ends; clear = clear_of s c; answer = claim_ans
 
 -- refused by the look, by the claim; or accepted
 pub data ClaimedRow (xs : List Row) (e : Ends) (l : Look) (k : Key) (site : Claimed) (m : Move) (zs : List Row) : Type 0 where
-  by_look_lem : is_unfit l ≡ true → m ≡ staying e (saying (Wd.Refused (number_of l))) → zs ≡ xs → ClaimedRow xs e l k site m zs
+  by_look : is_unfit l ≡ true → m ≡ staying e (saying (Wd.Refused (number_of l))) → zs ≡ xs → ClaimedRow xs e l k site m zs
   by_site : (c : Claiming) → is_unfit l ≡ false → ((n : List ℕ) → claiming_is c n ≡ claimed (get_or xs (at_of l) blank).part.heard n site) → is_refused c ≡ true → m ≡ staying e (saying (Wd.Refused 4)) → zs ≡ xs → ClaimedRow xs e l k site m zs
   seated : (c : Claiming) → is_unfit l ≡ false → ((n : List ℕ) → claiming_is c n ≡ claimed (get_or xs (at_of l) blank).part.heard n site) → is_refused c ≡ false → m ≡ seat_move (seat_of xs e l (claim_part (get_or xs (at_of l) blank).part c)) c → zs ≡ seated_rows xs e l k (claim_part (get_or xs (at_of l) blank).part c) → ClaimedRow xs e l k site m zs
 

@@ -28,7 +28,7 @@ pub enum Word {
     Done,
 }
 
-// A claim's key is the one that it pushed out, if any; a take-out's and a drop's the one freed; else it is zeros.
+// The key is the one that a claim pushed out where `pushed` is set, and the one freed where the word is `Freed`; else it says nothing.
 #[derive(Clone, Copy)]
 pub struct Answer {
     pub word: Word,

@@ -42,7 +42,7 @@ member g best i = found g i && within25 (dist (east_of i) (north_of i) (east_of 
 abbrev pub members : List ℕ → ℕ → ℕ
 members g best = how_many (member g best) 1600
 
--- Mean of the found within 25 km of best: its distance from the site is √meanSquare / members half cells
+-- Mean of the found within 25 km of best: its distance from the site is √mean_square / members half cells
 unfoldable pub mean_square : List ℕ → ℕ → ℕ
 mean_square g best =
     square (apart (sum_of (member g best) east_of 1600) (40 * members g best))

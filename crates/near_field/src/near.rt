@@ -1,11 +1,11 @@
 // The near-field judgment.
-ghost use Rattle.std.specs.Prelude.{◌≡◌, cond, ◌&&◌, ◌+◌, ◌*◌, ◌≤◌, ◌<◌, leb, ltb};
+ghost use Rattle.std.specs.Prelude.{◌≡◌, cond, ◌&&◌, ◌≤◌, ◌<◌, leb, ltb};
 ghost use Rattle.cells.specs.Passes.{how_many, sum_of};
 ghost use Rattle.cells.specs.Cells.{occupied_word};
 ghost use Rattle.plane.specs.Plane.{east_of, north_of, from_site};
 ghost use Rattle.around.specs.Marks.{occ};
 ghost use Rattle.around.specs.Counts.{counts_of};
-ghost use Rattle.near_field.specs.Near.{cells_within, no_hole, found, cells_around, best_of, member, members, mean_square, found_of, near_field_by, near_field};
+ghost use Rattle.near_field.specs.Near.{cells_within, no_hole, found, cells_around, best_of, member, members, found_of, near_field_by, near_field};
 
 use super::{Evidence, Judgment};
 use around::spans;

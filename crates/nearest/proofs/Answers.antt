@@ -15,13 +15,13 @@ module _ (grid : List ℕ) (far : Far) (sum : ℕ) (is : sum ≡ positions_in (p
   unfolding nothing_near nothing_near_in
   few_positions h = rw (lt-leb 60 (positions_in (places_heard grid far)) (rw is at h))
 
-  module _ (enough : 60 ≤ sum) (near : Bool) (third-is : near ≡ ltb (third (places_heard grid far)).nearest (km 60)) where
+  module _ (enough : 60 ≤ sum) (near : Bool) (third_is : near ≡ ltb (third (places_heard grid far)).nearest (km 60)) where
     pub some_near : near ≡ true → Heard ≡ nothing_near grid far
     unfolding nothing_near nothing_near_in
     some_near h =
         rw (
           le-leb 60 (positions_in (places_heard grid far)) (rw is at enough),
-          lt-leb (km 60) (third (places_heard grid far)).nearest (ltb-true (third (places_heard grid far)).nearest (km 60) (sym third-is ∙ h)),
+          lt-leb (km 60) (third (places_heard grid far)).nearest (ltb-true (third (places_heard grid far)).nearest (km 60) (sym third_is ∙ h)),
         )
 
     pub is_off : near ≡ false → (k off : ℕ) → k ≡ steps (typical_in (from_third (places_heard grid far))) 1 → off ≡ 5 * max 1 k → Off off ≡ nothing_near grid far
@@ -29,6 +29,6 @@ module _ (grid : List ℕ) (far : Far) (sum : ℕ) (is : sum ≡ positions_in (p
     is_off h k off e o =
         rw (
           le-leb 60 (positions_in (places_heard grid far)) (rw is at enough),
-          le-leb (km 60) (third (places_heard grid far)).nearest (ltb-false (third (places_heard grid far)).nearest (km 60) (sym third-is ∙ h)),
+          le-leb (km 60) (third (places_heard grid far)).nearest (ltb-false (third (places_heard grid far)).nearest (km 60) (sym third_is ∙ h)),
         )
         (ap Off (o ∙ ap (λ (n : ℕ). 5 * max 1 n) e))

@@ -1,4 +1,4 @@
--- The counts of specs/Counted, and the sums of crate `nearest`'s, are what the places heard have: their number, their positions, and how many are under 60 km.
+-- The counts of specs/Counted, and the sums of crate `nearest`, are what the places heard have: their number, their positions, and how many are under 60 km.
 -- Assumes nothing.
 use mathlib.Core.Path.{◌≡◌, refl, sym, ap, ◌∙◌}
 use mathlib.Core.Bool.{Bool, true, false, ◌&&◌, cond}

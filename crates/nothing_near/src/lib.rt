@@ -2,7 +2,7 @@
 // 60 km are counted, and of all positions, which crate `nearest` gathers by their steps, those of the two nearest are taken out.
 #![tactic(auto)]
 
-ghost use Rattle.std.specs.Prelude.{◌≡◌, List, ℕ, ◌-◌, ◌*◌, ◌≤◌, ◌<◌, min, max, ltb, length, get_or, set};
+ghost use Rattle.std.specs.Prelude.{◌≡◌, List, ℕ, ◌-◌, ◌*◌, ◌≤◌, ◌<◌, min, max, ltb, get_or, set};
 ghost use Rattle.cells.specs.Passes.{first};
 ghost use Rattle.plane.specs.Plane.{steps};
 ghost use Rattle.view.specs.View.{Unheard};

@@ -1,7 +1,7 @@
 // Whole and signed numbers of a list of calls, read from slices of bytes, and the digits and the sign that crates `reals` and `keys` read as well.
 #![tactic(auto)]
 
-ghost use Rattle.std.specs.Prelude.{◌≡◌, Bool, ◌<◌, ◌≤◌, ◌^◌, ◌-◌, pos, neg_ℤ};
+ghost use Rattle.std.specs.Prelude.{◌≡◌, ◌<◌, ◌≤◌, ◌^◌, ◌-◌, pos, neg_ℤ};
 ghost use Rattle.numbers.specs.Numbers.{digit_of, number_on, whole_of, is_minus, unsigned_of, minus_of, plus_of, signed_of};
 
 #[derive(Clone, Copy)]

@@ -96,9 +96,9 @@ module _ (t a b u m : ℕ) (q : List ℕ) where
           let f : (eqb t 1 && (degrees && maybe_fits most32 (u ∷ m ∷ q))) ≡ true = sym (ap (λ (x : Bool). cond x (zeros 4 l) (eqb t 1 && (degrees && maybe_fits most32 (u ∷ m ∷ q)))) e) ∙ h in
           let rest = and_2 (eqb t 1) (degrees && maybe_fits most32 (u ∷ m ∷ q)) f in
           let wide = and_1 degrees (maybe_fits most32 (u ∷ m ∷ q)) rest in
-          let in-degrees : held place ≡ true = sym (ap (λ (x : Bool). heard.site_fits (cond x Nowhere (At place))) e) ∙ g in
-          let lat = bits_closed 90 a (and_1 (leb a most64) (leb b most64) wide) (and_1 (within 90 place.lat) (within 180 place.lon) in-degrees) in
-          let lon = bits_closed 180 b (and_2 (leb a most64) (leb b most64) wide) (and_2 (within 90 place.lat) (within 180 place.lon) in-degrees) in
+          let in_degrees : held place ≡ true = sym (ap (λ (x : Bool). heard.site_fits (cond x Nowhere (At place))) e) ∙ g in
+          let lat = bits_closed 90 a (and_1 (leb a most64) (leb b most64) wide) (and_1 (within 90 place.lat) (within 180 place.lon) in_degrees) in
+          let lon = bits_closed 180 b (and_2 (leb a most64) (leb b most64) wide) (and_2 (within 90 place.lat) (within 180 place.lon) in_degrees) in
           ap (λ (x : Bool). site_words (cond x Nowhere (At place))) e
           ∙ simp (lat, lon, altitude_closed u m q (and_2 degrees (maybe_fits most32 (u ∷ m ∷ q)) rest), eqb-true t 1 (and_1 (eqb t 1) (degrees && maybe_fits most32 (u ∷ m ∷ q)) f))
 

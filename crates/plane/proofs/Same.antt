@@ -1,4 +1,4 @@
--- What a function of the plane answers, by what is known of its arguments: one law, where a proof would search every fact in scope. Assumes nothing.
+-- From equal arguments equal answers: laws that name the facts which a search would look for.
 use mathlib.Core.Path.{◌≡◌}
 use mathlib.Core.Bool.{Bool, cond}
 use Prim.Native.Nat.{ℕ}

@@ -1,6 +1,6 @@
 -- The grid's plane (01, "A judging"). Definitions only.
 -- 01: A cell centre is e = 2 × column − 39, n = 2 × row − 39, in 2.5 km. Here both are counted from the grid's south-west corner, in the same half
--- cells: the centre of column c is 2c + 1 half cells east of it, and the site, in the grid's middle, is at (40, 40). 01's e is eastOf − 40, its n northOf − 40.
+-- cells: the centre of column c is 2c + 1 half cells east of it, and the site, in the grid's middle, is at (40, 40). 01's e is east_of − 40, its n north_of − 40.
 -- Of the cell's width only the distance said depends (Item 14): the same half cells are 5 km where cells are 10 km wide.
 use Rattle.std.specs.Prelude.{ℕ, ◌+◌, ◌-◌, ◌*◌, ◌/◌, ◌%◌, max, Bool, leb, ltb, pos, ◌-ℤ◌}
 use Rattle.angles.specs.Bearing.{sector}

@@ -1,7 +1,7 @@
 // The grid's plane, in half cells from its south-west corner: where a cell's centre lies, how far two places are apart, and the distance said.
 #![tactic(auto)]
 
-ghost use Rattle.std.specs.Prelude.{◌≡◌, cond, ◌+◌, ◌-◌, ◌*◌, ◌≤◌, ◌<◌, ◌^◌, min};
+ghost use Rattle.std.specs.Prelude.{◌≡◌, cond, ◌+◌, ◌-◌, ◌≤◌, ◌<◌, ◌^◌, min};
 ghost use Rattle.plane.specs.Plane.{east_of, north_of, apart, square, steps, said};
 
 pub fn east_of(i: usize) -> u32

@@ -1,4 +1,4 @@
-// The column of one east as a C function, for the test that divides.
+// The column of one east, for the test that divides.
 ghost use Rattle.std.specs.Prelude.{◌≡◌};
 ghost use Rattle.probes.specs.Columns.{column_answer};
 
@@ -6,8 +6,7 @@ use angles::plane;
 use trig::num;
 
 // The column of so many mm east, or the row of so many mm north; 65,535 where they are past the grid.
-#[unsafe(no_mangle)]
-pub extern "C" fn probe_column(mm: i64) -> u32
+pub fn probe_column(mm: i64) -> u32
     ensures { result ≡ column_answer mm }
 {
     if mm > -100000000 {

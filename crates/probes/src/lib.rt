@@ -1,4 +1,4 @@
-// C functions for the comparison runs only: what the relay does not call.
+// Functions on numbers for the comparison runs only: what the relay does not call. Crate `probes_c` exports them to C.
 #![tactic(auto)]
 
 ghost use Rattle.std.specs.Prelude.{◌≡◌};
@@ -23,8 +23,7 @@ fn site_at(lat: f64, lon: f64) -> Site
 }
 
 // 1 where the two are one place, 0 where not, 4 for a "no" to question 4.
-#[unsafe(no_mangle)]
-pub extern "C" fn probe_same_place(lat1: f64, lon1: f64, lat2: f64, lon2: f64) -> u8
+pub fn probe_same_place(lat1: f64, lon1: f64, lat2: f64, lon2: f64) -> u8
     ensures { result ≡ same_answer lat1 lon1 lat2 lon2 }
 {
     if degrees::in_degrees(lat1, lon1) {

@@ -1,4 +1,4 @@
-// The judging as a C function on numbers and a slice, for the comparison runs.
+// The judging on numbers and a slice, for the comparison runs.
 ghost use Rattle.std.specs.Prelude.{◌≡◌, ◌≤◌};
 ghost use Rattle.probes.specs.Judged.{evidence_number, judgment_number, altitude_of, id_of, claimed_of, judged_number};
 
@@ -64,8 +64,7 @@ fn claimed_of(tag: u8, altitude: Altitude) -> Claimed
 }
 
 // The judging of a row's 3,344 cells, a tag of 0 standing for none; 2 where there are not as many cells.
-#[unsafe(no_mangle)]
-pub extern "C" fn probe_judge(
+pub fn probe_judge(
     cells: &[u32],
     even_tag: u8,
     even_id: u64,

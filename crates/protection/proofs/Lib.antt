@@ -1,3 +1,4 @@
+-- The theorem that a receiver keeps its verdict whatever the others sent, and what it stands on.
 pub mod Alone
 pub mod Held
 pub mod Lru

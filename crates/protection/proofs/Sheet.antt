@@ -1,4 +1,4 @@
--- Worked examples: P6, P7, P9, the readings' two runs, Item 3 of 02, and that demand 3 is not empty. The site is at 0, 0 degrees.
+-- Worked examples: P6, P7, P9, two runs more, Item 3 of 02, and that demand 3 is not empty. The site is at 0, 0 degrees.
 use mathlib.Core.Path.{◌≡◌, refl, sym, ap, ◌∙◌, subst}
 use Prim.Native.Nat.{ℕ, ◌+◌, ◌^◌, ◌≤◌, ◌<◌}
 use native.Mathlib.Omega.{arith}

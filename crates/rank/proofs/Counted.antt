@@ -134,7 +134,7 @@ module _ (l : List Float) (k : ℕ) (a : AllGood l) (h : k < length l) where
       counted _ l
       (subst (λ (n : ℕ). 1 ≤ n) (sorted_count _ l) (counts (λ (y : Float). eqb (units_of y) (units_of (ranked l k))) (sorted l) k inside (eq-eqb (units_of (ranked l k)) (units_of (ranked l k)) refl)))
 
-  module _ (i : ℕ) (low high : Float) (s : Between l k i low high) (in_List : i < length l) where
+  module _ (i : ℕ) (low high : Float) (s : Between l k i low high) (in_list : i < length l) where
     abbrev x : Float
     x = get_or l i nan
 
@@ -150,20 +150,20 @@ module _ (l : List Float) (k : ℕ) (a : AllGood l) (h : k < length l) where
 
     pub not_above : lt low x ≡ false → Between l k (i + 1) low high
     not_above e =
-        record { good = s.good; from = s.from; under = s.under; passed = one_more_lem low (omega arith) (λ r. no_less low x s.good (at_good l i in_List a) e) }
+        record { good = s.good; from = s.from; under = s.under; passed = one_more_lem low (omega arith) (λ r. no_less low x s.good (at_good l i in_list a) e) }
 
     pub not_under : lt x high ≡ false → Between l k (i + 1) low high
     not_under e =
-        record { good = s.good; from = s.from; under = s.under; passed = one_more_lem low (omega arith) (λ r. absurd (omega (arith, s.under x (at_good l i in_List a) e))) }
+        record { good = s.good; from = s.from; under = s.under; passed = one_more_lem low (omega arith) (λ r. absurd (omega (arith, s.under x (at_good l i in_list a) e))) }
 
     pub raised : lt low x ≡ true → below x l ≤ k → Between l k (i + 1) x high
     raised e b =
-        let g = at_good l i in_List a in
+        let g = at_good l i in_list a in
         record { good = g; from = within x g b; under = s.under; passed = one_more_lem x (le_of_lt (less low x s.good g e)) (λ r. omega arith) }
 
     pub lowered : k < below x l → Between l k (i + 1) low x
     lowered b =
-        let g = at_good l i in_List a in
+        let g = at_good l i in_list a in
         record {
           good = s.good;
           from = s.from;

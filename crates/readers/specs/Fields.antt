@@ -13,7 +13,7 @@ use Rattle.cells.specs.declared.Height.TheVariants as height
 use Rattle.sites.specs.declared.Altitude.TheVariants as altitude
 use Rattle.sites.specs.declared.Claimed.TheVariants as claimed
 use Rattle.view.specs.declared.EpochId.TheVariants as epoch
-use Rattle.verdicts.specs.declared.WrongBy.TheVariants as wrongBy
+use Rattle.verdicts.specs.declared.WrongBy.TheVariants as wrong_by
 use Rattle.verdicts.specs.declared.Last.{Last}
 use Rattle.verdicts.specs.declared.Last.TheVariants as last
 use Rattle.verdicts.specs.declared.Judged.TheVariants as judged
@@ -163,7 +163,7 @@ link_at t p n = link_of (maybe_at t p (2 ^ 32 - 2) n)
 
 -- a distance
 abbrev pub distance_of : Maybe → DistanceHeld
-distance_of m = record { by = cond m.some (wrongBy.Km m.n) wrongBy.Nothing; place = m.place }
+distance_of m = record { by = cond m.some (wrong_by.Km m.n) wrong_by.Nothing; place = m.place }
 
 unfoldable pub distance_at : List ℕ → Place → DistanceHeld
 distance_at t p = distance_of (maybe_at t p (2 ^ 32 - 1) name.Distance)

@@ -1,7 +1,7 @@
 // An f64 of a list of calls, read from slices of bytes: by its 16 hex digits, or as a decimal number.
 #![tactic(auto)]
 
-ghost use Rattle.std.specs.Prelude.{◌≡◌, ◌-◌, ◌^◌, ◌≤◌, Bool};
+ghost use Rattle.std.specs.Prelude.{◌≡◌, ◌-◌, ◌^◌, ◌≤◌};
 ghost use Rattle.std.specs.Float.Ieee as Ieee;
 ghost use Rattle.std.specs.Float.{binary64};
 ghost use Rattle.reals.specs.Reals.{bits_of, point_of, decimal_of, real_of};

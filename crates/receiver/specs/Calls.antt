@@ -1,5 +1,5 @@
 -- The seven calls of the siting watch (01, 'Seven calls, seven questions'; 02, Item 3): what each with a key does to its row's part and cells, and the
--- calls on any lent watch. Definitions only. A refusal has this paper's number; an accepted call's answer is `said` with the key pushed out or none.
+-- calls on any lent watch. Definitions only. A refusal has the documents' number; an accepted call's answer is `said` with the key pushed out or none.
 use Rattle.std.specs.Prelude.{ℕ, cond, ◌&&◌, List}
 use Rattle.table.specs.Machine.{Key, Kind, enters, uses, looks, leaves, Outcome, refuse, accept, Step}
 use Rattle.table.specs.Rows.{Watch}

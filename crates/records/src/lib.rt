@@ -1,5 +1,5 @@
 // The rows of a lent watch as a slice of records (01, "the rows are lent as a slice of records"): what crate `rows` decides on values, read from
-// the slice and stored in it. Nothing here asks for anything: a link that is no row's number reads as the unmade row, and a store there
+// the slice and stored in it. Nothing but `row_at` and `put_row` asks for anything: a link that is no row's number reads as the unmade row, and a store there
 // changes nothing. The three ends go in and out by value.
 #![tactic(auto)]
 

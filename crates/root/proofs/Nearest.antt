@@ -82,7 +82,7 @@ four_pos : (k : ℕ) → 0 < 4 ^ k
 four_pos k = subst (λ (x : ℕ). 0 < x) (sym (four_pow k)) (pow_pos (k + k))
 
 -- w is even, s is its whole root, q is s halved, rounded up: s is 2 ^ 53 at least
-module _ (v s q k Y : ℕ) (lower : s * s ≤ v * 2 ^ 54) (upper : v * 2 ^ 54 < (s + 1) * (s + 1)) (q-is : q ≡ (s + 1) / 2) (large : 2 ^ 53 ≤ s) where
+module _ (v s q k Y : ℕ) (lower : s * s ≤ v * 2 ^ 54) (upper : v * 2 ^ 54 < (s + 1) * (s + 1)) (q_is : q ≡ (s + 1) / 2) (large : 2 ^ 53 ≤ s) where
   farther_above : (c : ℕ) → Y ≡ c * 2 ^ k → q * 2 ^ k < Y → v * 2 ^ 54 * 4 ^ k < (q * 2 ^ k + Y) * (q * 2 ^ k + Y)
   farther_above c e h =
       let g : q < c = lt_of_mul-lt-mul_right (2 ^ k) (lt_of_lt_of_le h (le_of_eq e)) in
@@ -220,6 +220,6 @@ nearest_unique x r t a b =
   where
     clash : (x r t : Float) → NearestRoot x r → NearestRoot x t → units_of r < units_of t → ⊥
     clash x r t a b l =
-        let up-side = a.above t b.held b.finite l in
-        let down-side = b.below r a.held a.finite l in
-        lt_irrefl (4 * (units_of x * 2 ^ 1074)) (lt_of_lt_of_le up-side (le_trans (le_of_eq (ap (λ (z : ℕ). z * z) (add_comm (units_of r) (units_of t)))) (le_of_lt down-side)))
+        let up_side = a.above t b.held b.finite l in
+        let down_side = b.below r a.held a.finite l in
+        lt_irrefl (4 * (units_of x * 2 ^ 1074)) (lt_of_lt_of_le up_side (le_trans (le_of_eq (ap (λ (z : ℕ). z * z) (add_comm (units_of r) (units_of t)))) (le_of_lt down_side)))

@@ -1,4 +1,4 @@
--- 01, A judging, 2: "square root correctly rounded (IEEE 754)", over `lib.Ieee`: the value of the format that is nearest to √x. Definitions only.
+-- 01, A judging, 2: "square root correctly rounded (IEEE 754)", over `Rattle.std.specs.Float.Ieee`: the value of the format that is nearest to √x. Definitions only.
 use Rattle.std.specs.Prelude.{ℕ, zero, suc, ◌+◌, ◌-◌, ◌*◌, ◌/◌, ◌^◌, ◌<◌, Bool, true, false, cond, not, T, pos, nat_le, Float}
 use Rattle.std.specs.Float.{nan, inf, fin, binary64}
 use Rattle.std.specs.Float.Ieee.{up, down, size, units, fits}
@@ -47,7 +47,7 @@ plain nan = false
 plain (inf s) = false
 plain (fin s m e) = not s
 
--- r is a value of the format, and nearer to √x than every other is. √x is √(unitsOf x * 2 ^ 1074) units.
+-- r is a value of the format, and nearer to √x than every other is. √x is √(units_of x * 2 ^ 1074) units.
 -- It is nearer to r than to a y above r where it is below the middle, (r + y) / 2, and nearer than to a y below r where it is above the middle: here both sides are doubled and squared.
 pub record NearestRoot (x r : Float) : Type 0 where
   pub held : T (fits binary64 r)

@@ -1,6 +1,6 @@
 -- The steps on the program's rows, read as the definitions' steps. Facts on lists alone.
---     row_is           the row at a link, read                     unlink-is, link-is, release-is      on chains, of at most NONE rows
---     free-is, touch_is, put_is, take-is, room-is                  on watches
+--     row_is_lem       the row at a link, read                     unlink_is, link_is, release_is      on chains, of at most NONE rows
+--     free_is_lem, touch_is, put_is, take_is, room_is              on watches
 use mathlib.Core.Path.{◌≡◌, refl, sym, ◌∙◌, ap}
 use Prim.Native.Nat.{ℕ, zero, suc, ◌≤◌, ◌*◌}
 use native.Mathlib.Omega.{arith}

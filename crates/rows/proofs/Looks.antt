@@ -1,6 +1,6 @@
 -- Two scans answer questions 1, 2 and 3: what the scan of a chain comes to is the definitions' walk, search and test of every row. Facts on lists alone.
 --     walked           a scan comes to what the walk along the chain finds          found       one that came through has the first row with the key
---     sound-all, unseen    it stays sound where all rows are, and a row that fails is none that a sound scan saw
+--     sound_all, unseen    it stays sound where all rows are, and a row that fails is none that a sound scan saw
 --     looks            what is made of both scans is `looked_in`
 use mathlib.Core.Path.{◌≡◌, refl, sym, ◌∙◌, ap, ap₂, subst}
 use Prim.Native.Nat.{ℕ, zero, suc, ◌<◌, ◌≤◌, ◌-◌, ◌+◌, ◌*◌}

@@ -1,5 +1,5 @@
 -- What a turn of `scan` does to `scanned`. Facts on lists and numbers alone.
---     goes_on          where a scan goes on, its place is within the slice, one step leaves what the scan comes to, and fewer steps are left
+--     goes_on_lem      where a scan goes on, its place is within the slice, one step leaves what the scan comes to, and fewer steps are left
 --     stops            where it does not, it has come to its end
 use mathlib.Core.Path.{◌≡◌, refl, sym, ◌∙◌, ap}
 use Prim.Native.Nat.{ℕ, zero, suc, ◌<◌, ◌-◌}

@@ -1,5 +1,5 @@
 // The rows of a lent watch in their order of use: a chain of used rows, the least recently used first, and a chain of free rows. Here are
-// the row and the steps on it, by value; crate `scans` has the chains' ends, crates `records` and `lent` read rows from what is lent and store them there.
+// the row and the steps on it, by value; crate `scans` has the chains' ends, crates `records` and `chains` read rows from what is lent and store them there.
 #![tactic(auto)]
 
 ghost use Rattle.std.specs.Prelude.{◌≡◌};

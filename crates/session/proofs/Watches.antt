@@ -8,7 +8,6 @@ use lib.Dec.{leb}
 use native.Mathlib.Omega.{arith}
 use mathlib.Core.Bool.{Bool, true, false}
 use Rattle.table.specs.Machine as M
-use Rattle.table.specs.Machine.{Step}
 use Rattle.moves.specs.declared.Answer.{Answer}
 use Rattle.grammar.specs.declared.Call.{Call}
 use Rattle.grammar.specs.declared.Call.TheVariants as call

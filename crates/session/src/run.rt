@@ -1,5 +1,5 @@
 // The seven calls on the watch that is lent: the first 25 × C words of the rows, the first N cells, and the ends.
-ghost use Rattle.std.specs.Prelude.{◌≡◌, ◌*◌, ◌≤◌, length};
+ghost use Rattle.std.specs.Prelude.{◌≡◌};
 ghost use Rattle.rows.specs.Read.{watch_is};
 ghost use Rattle.flat.specs.Table.{rows_of};
 ghost use Rattle.moves.specs.Answers.{outcome};

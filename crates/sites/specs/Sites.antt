@@ -25,8 +25,8 @@ antenna s = antenna_of (alt_or0 s.alt_m)
 
 -- Against the Rust: 'the placing answers the cell, or 1,600 + bin': of a site's degrees and a position's
 unfoldable pub placed : Float → Float → Float → Float → ℕ
-placed siteLat siteLon lat lon = ticks.place (tick_of siteLat) (tick_of siteLon) (tick_of lat) (tick_of lon)
+placed site_lat site_lon lat lon = ticks.place (tick_of site_lat) (tick_of site_lon) (tick_of lat) (tick_of lon)
 
 -- '.. and 65,535 for a "no" to question 4 on any of its four degrees'
 unfoldable pub placing : Float → Float → Float → Float → ℕ
-placing siteLat siteLon lat lon = cond (in_degrees siteLat siteLon && in_degrees lat lon) (placed siteLat siteLon lat lon) 65535
+placing site_lat site_lon lat lon = cond (in_degrees site_lat site_lon && in_degrees lat lon) (placed site_lat site_lon lat lon) 65535

@@ -1,4 +1,4 @@
--- A tick's answer as nine numbers, as the answers of the seven calls are (replies/Replies.answerWords). Definitions only.
+-- A tick's answer as nine numbers, as the answers of the seven calls are (replies/Replies.answer_words). Definitions only.
 use Rattle.std.specs.Prelude.{◌≡◌, ℕ, List}
 use Rattle.replies.specs.Replies.{plain}
 use Rattle.turns.specs.declared.Turned.{Turned}

@@ -1,7 +1,6 @@
 // The seven calls as C functions over lent memory: rows as 25 numbers each (crate `flat`), cells, three ends, a key as four numbers, and nine numbers
 // for the answer (crate `replies`). Nothing is asked of any of them: what is no watch in order is refused, and a refusal changes nothing that was lent
 // but the answer.
-ghost use Rattle.std.specs.Prelude.{◌≡◌};
 ghost use Rattle.receiver.specs.Calls as calls;
 ghost use Rattle.rows.specs.Read.{watch_is};
 ghost use Rattle.flat.specs.Table.{rows_of};

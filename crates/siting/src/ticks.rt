@@ -1,4 +1,4 @@
-// The turn keeper as a C function over the memory of the seven calls, which it only reads, and a list of keys of 32 bytes each.
+// The turn keeper (02, Item 1) as a C function over the memory of the seven calls, which it only reads, and a list of keys of 32 bytes each.
 ghost use Rattle.std.specs.Prelude.{◌≡◌};
 ghost use Rattle.rows.specs.Read.{form, watch_is};
 ghost use Rattle.flat.specs.Table.{rows_of};

@@ -58,7 +58,7 @@ pub among_apart : (i : ℕ) (l : List ℕ) → among i l ≡ false → Apart i l
 among_apart i [] e = tt
 among_apart i (j ∷ l) e = (eqb_false i j (none_1 (eqb i j) (among i l) e), among_apart i l (none_2 (eqb i j) (among i l) e))
 
--- lists are apart where no number of one is apart from .. the other
+-- lists are apart where each number among the one is apart from the other
 pub all_apart_by : (l m : List ℕ) → ((i : ℕ) → among i l ≡ true → Apart i m) → AllApart l m
 all_apart_by [] m h = tt
 all_apart_by (j ∷ l) m h = (h j (or_1 (eqb j j) (among j l) (eqb_yes j j refl)), all_apart_by l m (λ i e. h i (or_2 (eqb i j) (among i l) e)))

@@ -247,7 +247,6 @@ module _ {P : Type 0} (F : Form P) (law : FormLaws F) (C : ℕ) (one : 1 ≤ C) 
   pub table_length : (w : Watch P) (t : List (Entry (Body P))) (used free : List ℕ) → Rep F C w t used free → length t ≡ length used
   table_length w t used free v = sym (ap length v.table) ∙ entries_length F w used
 
-  -- room for one more
   pub roomy : (w : Watch P) (t : List (Entry (Body P))) (used free : List ℕ) → Rep F C w t used free → Room F C w t
   roomy w t used (i ∷ free) v =
       let n : eqb w.ends.free NONE ≡ false = rw v.chained.free_is (eqb_no i NONE (below_none v.chained.freed.0 v.chained.small)) in

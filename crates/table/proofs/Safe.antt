@@ -138,7 +138,7 @@ module _ {Act Out : Type 0} (kind : Act → Kind) (R : Rowed Act Out) (law : Law
     pub drop_passes : (question1 R.form (drop_step R.form freed w).next ≡ true) × (question2 R.form (drop_step R.form freed w).next ≡ true)
     drop_passes = let d = drop_rep two.used two.free rep in passes (drop_step R.form freed w).next d.0 d.1
 
--- a store to a lent row, seen through the function that reads the program's row as this paper's
+-- a store, seen through a function of each element
 pub map_set : {A B : Type 0} (f : A → B) (l : List A) (i : ℕ) (a : A) → map f (set l i a) ≡ set (map f l) i (f a)
 map_set f [] i a = refl
 map_set f (x ∷ l) zero a = refl

@@ -135,7 +135,7 @@ module _ (w : Watch Part) (t : Tour) (list : List ℕ) (goes : Goes w t list) (m
   may_give = let g = goes.1 fine in (left, omega (arith, g.below, g.few), omega (arith, g.small, left), omega (arith, g.room, left))
 
   pub record Passed (s : Tour) (out : List ℕ) : Type 0 where
-    pub goes_on_lem : Goes w s out
+    pub goes_on : Goes w s out
     pub same : to_come w s out ≡ to_come w t list
     pub less : s.rest < t.rest
 
@@ -168,7 +168,7 @@ module _ (w : Watch Part) (t : Tour) (list : List ℕ) (goes : Goes w t list) (m
 
       passed : Passed (tour_step t) (list_after used row.key t.count list)
       passed = record {
-        goes_on_lem = ((λ _. fine), (λ _. record { below = below; few = g.few; small = omega (arith, g.small, count_less used t.count, left); room = omega (arith, g.room, count_less used t.count, list_long used row.key t.count list, left); tells = g.tells }));
+        goes_on = ((λ _. fine), (λ _. record { below = below; few = g.few; small = omega (arith, g.small, count_less used t.count, left); room = omega (arith, g.room, count_less used t.count, list_long used row.key t.count list, left); tells = g.tells }));
         same =
             comes w (tour_step t) (list_after used row.key t.count list) fine
             ∙ ap (ahead (count_after used t.count) (list_after used row.key t.count list) (keys_of form w (named t.n next f))) numbers

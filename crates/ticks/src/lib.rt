@@ -1,4 +1,4 @@
-// The turn keeper over rows lent as records (02, Item 1): the tick of crate `turns`, over `&[Row]`. What a tick does to the rows is planned first, by value: questions
+// The turn keeper over rows lent as records (02, Item 1): the tick of crate `turns`, over `&[Row]`. What a tick is going to do is planned first: questions
 // 1, 2 and 8, and the used rows marked. Then each row that it names is read once, and what becomes of its key is decided by a function that sees no other row.
 #![tactic(auto)]
 

@@ -1,2 +1,3 @@
+-- Laws that the proofs of more than one function, or of other crates, cite.
 pub mod Words
 pub mod Replaying

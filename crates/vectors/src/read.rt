@@ -1,5 +1,5 @@
 // The words of a line, and what a vector's words say.
-ghost use Rattle.std.specs.Prelude.{◌≡◌, ◌&&◌, length};
+ghost use Rattle.std.specs.Prelude.{◌≡◌, ◌&&◌};
 ghost use Rattle.vectors.specs.Lines.{first_word, rest_words, word_of, ended_at, whole_in, metres_in, row_of, readable_row};
 
 use numbers::{Number, Signed};

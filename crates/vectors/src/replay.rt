@@ -1,5 +1,5 @@
 // The list, line by line: a cell is set, a row is judged and its answer compared, what was counted is printed.
-ghost use Rattle.std.specs.Prelude.{◌≡◌, Bool, length};
+ghost use Rattle.std.specs.Prelude.{◌≡◌, length};
 ghost use Rattle.lines.specs.Lines.{Within};
 ghost use Rattle.vectors.specs.Replays.{no_cells, no_counts, unread_of, missed_by, compared_by, judged_by, with_cell, cell_after, judging_after, after, answered, Stepped};
 

@@ -4,7 +4,7 @@
 ghost use Rattle.std.specs.Prelude.{◌≡◌, ◌||◌, ◌&&◌, cond, ◌+◌, ◌≤◌, ◌<◌, eqb, length};
 ghost use Rattle.cells.specs.Cells.{empty_word};
 ghost use Rattle.cells.specs.Passes.{some};
-ghost use Rattle.view.specs.View.{kept, merged_of, merged_at, grid_of, heard_at, heard_in, bins_of, positions_of, far_of, occupied_among};
+ghost use Rattle.view.specs.View.{kept, merged_at, grid_of, heard_at, heard_in, bins_of, positions_of, far_of, occupied_among};
 
 #[derive(Clone, Copy)]
 pub enum EpochId {

@@ -1,2 +1,2 @@
-// No code: this library holds the laws that every walk by hand over a lent slice of records shares (proofs/Kit.antt has their names).
+// No code: the laws of a slice that is filled element by element (proofs/Fill.antt).
 #![tactic(auto)]

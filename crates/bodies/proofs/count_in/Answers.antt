@@ -1,3 +1,4 @@
+-- A position that counts is counted in the row's part of the cells (`counted`); the three others leave them.
 use Rattle.std.proofs.Common.{rules}
 use Rattle.bodies.proofs.Laws.{counted, not_outside, not_siteless, not_late}
 use Rattle.bodies.proofs.count_in.Goals as goal

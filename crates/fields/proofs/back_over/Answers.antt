@@ -1,4 +1,4 @@
--- Each turn is one of `back_over`: a byte that is a space is passed, and any other ends the walk.
+-- Each turn is one of `back_over`: a byte that is a space is passed, and any other ends the loop.
 use Rattle.std.proofs.Common.{◌-◌, ◌∙◌, sym, arith}
 use Rattle.fields.proofs.Lines.{back_space, back_stop, back_none}
 use Rattle.fields.proofs.back_over.Goals as goal

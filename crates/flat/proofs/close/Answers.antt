@@ -1,4 +1,4 @@
--- `flat::close` meets its contract: each way out is a law that is cited below, at what the code found.
+-- The stores of its parts, one behind the other, are the row's 25 words (`closes`).
 use Rattle.flat.proofs.Closing.{closes}
 use Rattle.std.proofs.Common.{rules}
 use Rattle.flat.proofs.close.Goals as goal

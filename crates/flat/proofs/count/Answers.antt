@@ -1,4 +1,4 @@
--- `flat::count` meets its contract: each way out is a law that is cited below, at what the code found.
+-- A whole number of rows by the division, none where words are left over (`count_whole`, `count_torn`).
 use Rattle.flat.proofs.Rows.{width_some, count_whole, count_torn}
 use Rattle.std.proofs.Common.{rules}
 use Rattle.flat.proofs.count.Goals as goal

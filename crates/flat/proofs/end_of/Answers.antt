@@ -1,4 +1,4 @@
--- `flat::end_of` meets its contract: each way out is a law that is cited below, at what the code found.
+-- Row i ends 25 words behind its start (`ends_at`).
 use Rattle.flat.proofs.Rows.{ends_at}
 use Rattle.std.proofs.Common.{rules}
 use Rattle.flat.proofs.end_of.Goals as goal

@@ -1,4 +1,4 @@
--- `flat::junk` meets its contract: each way out is a law that is cited below, at what the code found.
+-- The two compute to one row, whose degrees are 0 / 0.
 use Rattle.flat.specs.Words.{junk}
 use mathlib.Core.Path.{refl}
 use lib.Ieee.{div, of_bits}

@@ -1,4 +1,4 @@
--- `flat::open` meets its contract: each way out is a law that is cited below, at what the code found.
+-- Words that fit open as the row read from them, others as junk (`opens`, `opens_junk`).
 use Rattle.flat.proofs.Opening.{opens, opens_junk}
 use Rattle.std.proofs.Common.{rules}
 use Rattle.flat.proofs.open.Goals as goal

@@ -1,4 +1,4 @@
--- `flat::outside` meets its contract: each way out is a law that is cited below, at what the code found.
+-- A row lies within where its end does, if the slice is whole rows (`outside_whole`, `outside_torn`).
 use Rattle.flat.proofs.Rows.{width_some, outside_whole, outside_torn}
 use Rattle.std.proofs.Common.{rules}
 use Rattle.flat.proofs.outside.Goals as goal

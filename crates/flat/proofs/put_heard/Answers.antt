@@ -1,4 +1,4 @@
--- `flat::put_heard` meets its contract: each way out is a law that is cited below, at what the code found.
+-- Its stores are one run of its words (`heard_puts`).
 use Rattle.flat.proofs.Closing.{heard_puts}
 use Rattle.std.proofs.Common.{rules}
 use Rattle.flat.proofs.put_heard.Goals as goal

@@ -1,4 +1,4 @@
--- `flat::row_fits` meets its contract: each way out is a law that is cited below, at what the code found.
+-- The three tests are the definition's (`row_fits_is`).
 use Rattle.flat.proofs.Opening.{row_fits_is}
 use Rattle.std.proofs.Common.{rules}
 use Rattle.flat.proofs.row_fits.Goals as goal

@@ -1,4 +1,4 @@
--- `flat::row_of` meets its contract: each way out is a law that is cited below, at what the code found.
+-- The row of what its fields are read as (`row_is_lem`).
 use Rattle.flat.proofs.Opening.{row_is_lem}
 use Rattle.std.proofs.Common.{rules}
 use Rattle.flat.proofs.row_of.Goals as goal

@@ -1,4 +1,4 @@
--- `flat::row_words` meets its contract: each way out is a law that is cited below, at what the code found.
+-- 25, by its name (`wide_is`).
 use Rattle.flat.proofs.Rows.{wide_is}
 use Rattle.std.proofs.Common.{rules}
 use Rattle.flat.proofs.row_words.Goals as goal

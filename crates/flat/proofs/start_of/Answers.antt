@@ -1,4 +1,4 @@
--- `flat::start_of` meets its contract: each way out is a law that is cited below, at what the code found.
+-- Row i starts 25 × i words in (`starts_at`).
 use Rattle.flat.proofs.Rows.{starts_at}
 use Rattle.std.proofs.Common.{rules}
 use Rattle.flat.proofs.start_of.Goals as goal

@@ -1,4 +1,4 @@
--- `glances::glance_of` meets its contract: each way out is a law that is cited below, at what the code found.
+-- Links, soundness and key are the row's that the words are (`glance_is`).
 use Rattle.flat.specs.Words.{row_of}
 use Rattle.glances.proofs.Places.{glance_is}
 use Rattle.std.proofs.Common.{rules}

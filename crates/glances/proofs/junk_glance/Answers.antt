@@ -1,4 +1,4 @@
--- `glances::junk_glance` meets its contract: each way out is a law that is cited below, at what the code found.
+-- What junk has: no links, an unsound part, a key of zeros (`glance_junk`).
 use Rattle.glances.proofs.Places.{glance_junk}
 use Rattle.std.proofs.Common.{rules}
 use Rattle.glances.proofs.junk_glance.Goals as goal

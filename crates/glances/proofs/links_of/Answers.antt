@@ -1,4 +1,4 @@
--- `glances::links_of` meets its contract: each way out is a law that is cited below, at what the code found.
+-- The two words are the row's links (`links_are`).
 use Rattle.flat.specs.Words.{row_of}
 use Rattle.glances.proofs.Places.{links_are}
 use Rattle.std.proofs.Common.{rules}

@@ -1,4 +1,4 @@
--- `glances::look_of` meets its contract: each way out is a law that is cited below, at what the code found.
+-- Words that fit are looked at as they are, others as junk (`seen`, `seen_junk`).
 use Rattle.glances.proofs.Places.{seen, seen_junk}
 use Rattle.std.proofs.Common.{rules}
 use Rattle.glances.proofs.look_of.Goals as goal

@@ -1,4 +1,4 @@
--- `glances::same_words` meets its contract: each way out is a law that is cited below, at what the code found.
+-- Keys are the same where their four words are (`same_keys`).
 use Rattle.glances.proofs.Keys.{same_keys}
 use Rattle.std.proofs.Common.{rules}
 use Rattle.glances.proofs.same_words.Goals as goal

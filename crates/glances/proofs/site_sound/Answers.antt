@@ -1,4 +1,4 @@
--- `glances::site_sound` meets its contract: each way out is a law that is cited below, at what the code found.
+-- Tag 0 is no site; of any other the degrees are tested (`site_none`, `site_held`).
 use Rattle.glances.proofs.Places.{site_none, site_held}
 use Rattle.std.proofs.Common.{rules}
 use Rattle.glances.proofs.site_sound.Goals as goal

@@ -1,4 +1,4 @@
--- `glances::sound_at` meets its contract: each way out is a law that is cited below, at what the code found.
+-- The site tells where it is out of range, else the verdict (`site_tells`, `verdict_tells`).
 use Rattle.glances.proofs.Places.{site_tells, verdict_tells}
 use Rattle.std.proofs.Common.{rules}
 use Rattle.glances.proofs.sound_at.Goals as goal

@@ -1,4 +1,4 @@
--- `glances::store_part` meets its contract: each way out is a law that is cited below, at what the code found.
+-- The part's words in place of the old ones (`part_stored`).
 use Rattle.glances.proofs.Stores.{part_stored}
 use Rattle.std.proofs.Common.{rules}
 use Rattle.glances.proofs.store_part.Goals as goal

@@ -1,4 +1,4 @@
--- `glances::verdict_sound` meets its contract: each way out is a law that is cited below, at what the code found.
+-- Sound without a verdict or a distance, else by its distance (`verdict_none`, `distance_none`, `distance_held`).
 use Rattle.glances.proofs.Places.{verdict_none, distance_none, distance_held}
 use Rattle.std.proofs.Common.{rules}
 use Rattle.glances.proofs.verdict_sound.Goals as goal

@@ -1,4 +1,4 @@
--- `glances::words_fit` meets its contract: each way out is a law that is cited below, at what the code found.
+-- Of three tests in turn the first that fails tells (`head_unfit`, `numbers_unfit`, `verdict_decides`).
 use Rattle.glances.proofs.Places.{head_unfit, numbers_unfit, verdict_decides}
 use Rattle.std.proofs.Common.{rules}
 use Rattle.glances.proofs.words_fit.Goals as goal

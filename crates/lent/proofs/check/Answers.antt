@@ -1,4 +1,4 @@
--- Each way out is a law that is cited below, at what the calls came to.
+-- What is said of the row that was found is the definition's check (`check_so`); no word changes.
 use Rattle.receiver.specs.Calls.{check}
 use Rattle.flat.specs.Table.{rows_of}
 use Rattle.moves.proofs.Entries.{check_so}

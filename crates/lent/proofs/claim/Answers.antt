@@ -1,4 +1,4 @@
--- Each way out is a law that is cited below, at what the calls came to.
+-- The claim on the rows, the cells emptied and the ends kept are the definition's claim (`claim_so`).
 use Rattle.std.proofs.Common.{refl}
 use Rattle.receiver.specs.Calls.{claim}
 use Rattle.flat.specs.Table.{rows_of}

@@ -1,4 +1,4 @@
--- Each way out is a law that is cited below, at what the calls came to.
+-- An unfit look, a claim refused, or the row seated (`claim_unfit`, `claim_left`, `claim_kept`).
 use Rattle.std.proofs.Common.{rules}
 use Rattle.flat.specs.Table.{rows_of}
 use Rattle.chains.proofs.Laws.{test_is}

@@ -1,4 +1,4 @@
--- Each way out is a law that is cited below, at what the calls came to.
+-- The first of the used chain is freed, or the first no is said (`drop_so`).
 use Rattle.flat.specs.Table.{rows_of}
 use Rattle.moves.proofs.Entries.{drop_room, drop_so}
 use Rattle.lent.proofs.Laws.{words_of}

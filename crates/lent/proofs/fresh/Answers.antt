@@ -1,4 +1,4 @@
--- Each way out is a law that is cited below, at what the calls came to.
+-- Sizes that do not fit are refused; else rows, cells and ends are fresh (`fresh_not`, `fresh_made`).
 use Rattle.std.proofs.Common.{refl, length}
 use Rattle.flat.specs.Table.{rows_of}
 use Rattle.lent.proofs.Laws.{same_words, done_words}

@@ -1,4 +1,4 @@
--- Each way out is a law that is cited below, at what the calls came to.
+-- No row, a position not counted, or one that marks its row (`hear_none`, `hear_left`, `hear_kept`).
 use Rattle.std.proofs.Common.{rules}
 use Rattle.flat.specs.Table.{rows_of}
 use Rattle.chains.proofs.Laws.{test_is}

@@ -1,4 +1,4 @@
--- Each way out is a law that is cited below, at what the calls came to.
+-- No row changes nothing; else the row keeps judgment and clock (`unjudged_rows`, `judged_rows_lem`).
 use Rattle.std.proofs.Common.{rules}
 use Rattle.lent.proofs.Laws.{unjudged_answer, unjudged_rows, judged_answer, judged_rows_lem, same_words, judged_words}
 use Rattle.lent.proofs.judge_row.Goals as goal

@@ -1,4 +1,4 @@
--- Each way out is a law that is cited below, at what the calls came to.
+-- The judgment of the row's cells, and the row that keeps it, are the definition's judging (`judging_so`).
 use Rattle.receiver.specs.Calls.{judging}
 use Rattle.flat.specs.Table.{rows_of}
 use Rattle.moves.proofs.Entries.{due_room, judging_so}

@@ -1,4 +1,4 @@
--- Each way out is a law that is cited below, at what the calls came to.
+-- The position on the rows and in the cells is the definition's position (`position_so`).
 use Rattle.std.proofs.Common.{refl}
 use Rattle.receiver.specs.Calls.{position}
 use Rattle.flat.specs.Table.{rows_of}

@@ -1,4 +1,4 @@
--- Each way out is a law that is cited below, at what the calls came to.
+-- No row changes nothing; else it is freed (`unremoved_move`, `removed_move`).
 use Rattle.std.proofs.Common.{rules}
 use Rattle.lent.proofs.Laws.{unremoved_move, unremoved_rows, removed_move, removed_rows_lem, same_words, freed_words}
 use Rattle.lent.proofs.remove.Goals as goal

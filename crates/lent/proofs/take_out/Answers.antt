@@ -1,4 +1,4 @@
--- Each way out is a law that is cited below, at what the calls came to.
+-- The row freed, its cells emptied and the ends kept are the definition's take-out (`take_so`).
 use Rattle.receiver.specs.Calls.{take_out}
 use Rattle.flat.specs.Table.{rows_of}
 use Rattle.moves.proofs.Entries.{take_room, take_so}

@@ -1,3 +1,4 @@
+-- Thirty-two zeros are the key of zeros.
 use Rattle.std.proofs.Common.{refl}
 use Rattle.table.specs.Rows.{zero_key}
 use Rattle.moves.proofs.zero_key.Goals as goal

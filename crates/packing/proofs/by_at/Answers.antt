@@ -1,4 +1,4 @@
--- `packing::by_at` meets its contract: each way out is a law that is cited below, at what the code found.
+-- Tag 0 is none (`absent`), any other the case with a value (`by_some`).
 use Rattle.packing.proofs.Opening.{absent, by_some}
 use Rattle.packing.specs.Words.{by_of}
 use Rattle.std.proofs.Common.{rules}

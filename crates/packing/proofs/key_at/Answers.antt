@@ -1,4 +1,4 @@
--- `packing::key_at` meets its contract: each way out is a law that is cited below, at what the code found.
+-- Four times eight bytes are the key (`key_opens`).
 use Rattle.packing.proofs.Keys.{key_opens}
 use Rattle.std.proofs.Common.{refl}
 use Rattle.packing.proofs.key_at.Goals as goal

@@ -1,4 +1,4 @@
--- `packing::maybe_fits` meets its contract: each way out is a law that is cited below, at what the code found.
+-- By the tag: none, a number, or neither (`maybe_none`, `maybe_some`, `maybe_other`).
 use Rattle.packing.proofs.Opening.{maybe_none, maybe_some, maybe_other}
 use Rattle.std.proofs.Common.{rules}
 use Rattle.packing.proofs.maybe_fits.Goals as goal

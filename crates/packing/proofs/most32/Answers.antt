@@ -1,4 +1,4 @@
--- `packing::most32` meets its contract: each way out is a law that is cited below, at what the code found.
+-- The number, by its name (`most32_is`).
 use Rattle.packing.proofs.Opening.{most32_is}
 use Rattle.std.proofs.Common.{rules}
 use Rattle.packing.proofs.most32.Goals as goal

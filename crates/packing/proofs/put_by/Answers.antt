@@ -1,4 +1,4 @@
--- `packing::put_by` meets its contract: each way out is a law that is cited below, at what the code found.
+-- The case's two words (`puts`), which their type keeps in range (`in_range`).
 use Rattle.packing.proofs.Closing.{puts, in_range}
 use Rattle.packing.specs.Words.{by_words}
 use Rattle.packing.specs.Ranges.{ByIn}

@@ -1,4 +1,4 @@
--- `packing::put_bytes` meets its contract: each way out is a law that is cited below, at what the code found.
+-- Eight stores are one run of the word's bytes (`bytes_put`).
 use Rattle.packing.proofs.Keys.{bytes_put}
 use Rattle.std.proofs.Common.{rules}
 use Rattle.packing.proofs.put_bytes.Goals as goal

@@ -1,4 +1,4 @@
--- `packing::put_key` meets its contract: each way out is a law that is cited below, at what the code found.
+-- Four words of eight bytes each (`key_puts`, `key_in`).
 use Rattle.packing.proofs.Keys.{key_puts, key_in}
 use Rattle.std.proofs.Common.{rules}
 use Rattle.packing.proofs.put_key.Goals as goal

@@ -1,4 +1,4 @@
--- `packing::put_run` meets its contract: each way out is a law that is cited below, at what the code found.
+-- Three runs, one behind the other, are the verdict's words (`run_puts`).
 use Rattle.packing.proofs.Closing.{run_puts}
 use Rattle.std.proofs.Common.{rules}
 use Rattle.packing.proofs.put_run.Goals as goal

@@ -1,4 +1,4 @@
--- `packing::put_site` meets its contract: each way out is a law that is cited below, at what the code found.
+-- Three runs are the site's words, or zeros (`site_puts`, `site_puts_none`).
 use Rattle.packing.proofs.Closing.{site_puts, in_range, site_puts_none}
 use Rattle.packing.specs.Ranges.{SiteIn}
 use Rattle.std.proofs.Common.{rules}

@@ -1,4 +1,4 @@
--- `packing::put_verdict` meets its contract: each way out is a law that is cited below, at what the code found.
+-- Without a verdict seven zeros (`never_puts`).
 use Rattle.packing.proofs.Closing.{in_range, never_puts}
 use Rattle.packing.specs.Ranges.{VerdictIn}
 use Rattle.std.proofs.Common.{rules}

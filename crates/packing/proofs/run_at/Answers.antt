@@ -1,4 +1,4 @@
--- `packing::run_at` meets its contract: each way out is a law that is cited below, at what the code found.
+-- Each field is read from its word (`run_is`).
 use Rattle.packing.proofs.Opening.{run_is}
 use Rattle.std.proofs.Common.{rules}
 use Rattle.packing.proofs.run_at.Goals as goal

@@ -1,4 +1,4 @@
--- `packing::run_fits` meets its contract: each way out is a law that is cited below, at what the code found.
+-- The tests in turn are the definition's (`run_fits_is`).
 use Rattle.packing.proofs.Opening.{run_fits_is}
 use Rattle.std.proofs.Common.{rules}
 use Rattle.packing.proofs.run_fits.Goals as goal

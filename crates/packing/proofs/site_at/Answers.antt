@@ -1,4 +1,4 @@
--- `packing::site_at` meets its contract: each way out is a law that is cited below, at what the code found.
+-- Tag 0 is none (`absent`), any other the case with a value (`site_some`).
 use Rattle.packing.proofs.Opening.{absent, site_some}
 use Rattle.packing.specs.Words.{site_of}
 use Rattle.std.proofs.Common.{rules}

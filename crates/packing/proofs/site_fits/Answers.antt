@@ -1,4 +1,4 @@
--- `packing::site_fits` meets its contract: each way out is a law that is cited below, at what the code found.
+-- By the tag: none, a site, or neither (`site_fits_none`, `site_fits_some`, `site_fits_other`).
 use Rattle.packing.proofs.Opening.{site_fits_none, site_fits_some, site_fits_other}
 use Rattle.std.proofs.Common.{rules}
 use Rattle.packing.proofs.site_fits.Goals as goal

@@ -1,4 +1,4 @@
--- `packing::verdict_at` meets its contract: each way out is a law that is cited below, at what the code found.
+-- Tag 0 is none (`absent`), any other the case with a value (`verdict_some`).
 use Rattle.packing.proofs.Opening.{absent, verdict_some}
 use Rattle.packing.specs.Words.{verdict_of}
 use Rattle.std.proofs.Common.{rules}

@@ -1,4 +1,4 @@
--- `packing::verdict_fits` meets its contract: each way out is a law that is cited below, at what the code found.
+-- By the tag: six zeros behind none, else a run (`verdict_fits_none`, `verdict_fits_some`).
 use Rattle.packing.proofs.Opening.{verdict_fits_none, verdict_fits_some}
 use Rattle.std.proofs.Common.{rules}
 use Rattle.packing.proofs.verdict_fits.Goals as goal

@@ -1,4 +1,4 @@
--- `packing::whole` meets its contract: each way out is a law that is cited below, at what the code found.
+-- A number of 64 bits is below 2^64 (`below64`).
 use Rattle.packing.proofs.Opening.{below64}
 use Rattle.std.proofs.Common.{rules}
 use Rattle.packing.proofs.whole.Goals as goal

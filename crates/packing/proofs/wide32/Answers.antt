@@ -1,4 +1,4 @@
--- `packing::wide32` meets its contract: each way out is a law that is cited below, at what the code found.
+-- A number of 32 bits is below 2^32 (`below32`).
 use Rattle.packing.proofs.Opening.{below32}
 use Rattle.std.proofs.Common.{rules}
 use Rattle.packing.proofs.wide32.Goals as goal

@@ -1,4 +1,4 @@
--- `packing::word` meets its contract: each way out is a law that is cited below, at what the code found.
+-- Eight digits to the base 256, so no sum wraps.
 use native.Mathlib.Omega.{arith}
 use Rattle.packing.specs.Words.{word_of}
 use Rattle.packing.proofs.word.Goals as goal

@@ -18,7 +18,7 @@ row_passed : (xs : List Row) (ys ws : List ℕ) (t s : Tour) (list out : List �
     → Goes (watch_is xs ys ws) s out × (to_come (watch_is xs ys ws) s out ≡ to)
 row_passed xs ys ws t s list out i row to goes more ei er es =
     let p = passes (watch_is xs ys ws) t list goes.0 more xs refl s out row (er ∙ ap {B = Row} (λ j. get_or xs j blank) ei) es.0 es.1 es.2 in
-    (p.goes_on_lem, p.same ∙ goes.1)
+    (p.goes_on, p.same ∙ goes.1)
 
 pub loop-at-init : goal.loop-at-init
 loop-at-init c = c.planned-t.ensures c.args.cells.now c.args.ends.now c.args.list.now refl c.ends_of-e.ensures refl

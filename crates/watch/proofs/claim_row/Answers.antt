@@ -1,4 +1,4 @@
--- The claim is refused by the row's site, or the row is seated.
+-- The claim is refused by the site that it claims, or the row is seated.
 use Rattle.std.proofs.Common.{sym, ◌∙◌}
 use Rattle.moves.proofs.Entries.{claim_left, claim_kept}
 use Rattle.watch.proofs.claim_row.Goals as goal

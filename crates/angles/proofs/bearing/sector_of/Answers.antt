@@ -1,4 +1,4 @@
--- A law for none, for the due directions, and for what lies between them.
+-- A law for none and for the due directions; what lies between them is `between`.
 use Rattle.std.proofs.Common.{arith, true, false}
 use Rattle.angles.proofs.Sector.{none_at, north_south_at, east_west_at}
 use Rattle.angles.proofs.bearing.sector_of.Goals as goal
