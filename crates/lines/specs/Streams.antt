@@ -1,6 +1,7 @@
 -- What a source has left to give and what a sink holds, where the reader and the writer say so, and whether an error came. Definitions only.
-use Rattle.std.specs.Prelude.{ℕ, Bool, List, is_some}
+use Rattle.std.specs.Prelude.{ℕ, Bool, List, is_some, ⊤, None, Some, Ok, Err}
 use Rattle.std.specs.declared.option.Option.{Option}
+use Rattle.std.specs.declared.result.Result.{Result}
 use Rattle.lines.specs.declared.streams.Source.{Source}
 use Rattle.lines.specs.declared.streams.Sink.{Sink}
 
@@ -18,3 +19,8 @@ source_failed s = is_some s.failed
 
 abbrev pub sink_failed : {W : Type 0} → Sink W → Bool
 sink_failed s = is_some s.failed
+
+-- what is said at the end: the error that came, if one did
+abbrev pub ended : {E : Type 0} → Option E → Result ⊤ E
+ended None = Ok tt
+ended (Some e) = Err e

@@ -1,7 +1,7 @@
 // A reader and a writer, each with the first error that it gave. After an error nothing more is read or written, and whoever runs the program asks for it at the end.
-ghost use Rattle.std.specs.Prelude.{◌≡◌, ◌<◌, ◌≤◌, true, false, length, take, is_err};
+ghost use Rattle.std.specs.Prelude.{◌≡◌, ◌<◌, ◌≤◌, true, false, length, take};
 ghost use Rattle.std.specs.Io.KnownBytes.{Appends, Consumes, IsAtEnd};
-ghost use Rattle.lines.specs.Streams.{left_in, held_by, source_failed, sink_failed};
+ghost use Rattle.lines.specs.Streams.{left_in, held_by, source_failed, sink_failed, ended};
 
 use std::io::{Error, Read, Result, Write};
 
@@ -33,7 +33,8 @@ impl<R: Read> Source<R> {
         ensures within { result ≤ length buf.new }
         ensures bytes { Consumes (left_in R.remaining self.old) (left_in R.remaining self.new) (take result buf.new) }
         ensures none { result ≡ 0 → 0 < length buf.new → source_failed self.new ≡ false → IsAtEnd (left_in R.remaining self.new) }
-        ensures after { source_failed self.old ≡ true → (result ≡ 0) × (self.new ≡ self.old) }
+        ensures error { source_failed self.new ≡ true → result ≡ 0 }
+        ensures after { source_failed self.old ≡ true → (self.new ≡ self.old) × (buf.new ≡ buf.old) }
     {
         if self.failed.is_some() {
             return 0;
@@ -51,7 +52,7 @@ impl<R: Read> Source<R> {
     pub fn end(self) -> Result<()>
     where
         R: Drop,
-        ensures { is_err result ≡ source_failed self }
+        ensures { result ≡ ended self.failed }
     {
         match self.failed {
             Some(e) => Err(e),
@@ -71,7 +72,7 @@ impl<W: Write> Sink<W> {
         }
     }
 
-    // Writes all the bytes, unless an error came before.
+    // Writes all the bytes, unless an error came before or comes now.
     pub fn write(&mut self, bytes: &[u8])
         ensures bytes { sink_failed self.new ≡ false → Appends (held_by W.contents self.old) (held_by W.contents self.new) bytes.now }
         ensures after { sink_failed self.old ≡ true → self.new ≡ self.old }
@@ -88,10 +89,10 @@ impl<W: Write> Sink<W> {
     pub fn end(self) -> Result<()>
     where
         W: Drop,
-        ensures { is_err result ≡ sink_failed self }
+        ensures { result ≡ ended self.failed }
     {
         match self.failed {
-            Some(e) => Err(e),
+            Some(error) => Err(error),
             None => Ok(()),
         }
     }
