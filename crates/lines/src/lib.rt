@@ -1,8 +1,9 @@
 // An input, line by line, through a buffer that the caller lends.
 #![tactic(auto)]
 
-ghost use Rattle.std.specs.Prelude.{◌≡◌, ◌≤◌};
+ghost use Rattle.std.specs.Prelude.{◌≡◌, ◌≤◌, true};
 ghost use Rattle.lines.specs.Lines.{Within, start_of, line_of, last_of, kept_of, taken_of, Refilled, Next, bytes_of};
+ghost use Rattle.lines.specs.Streams.{source_failed};
 
 mod streams;
 
@@ -94,7 +95,8 @@ fn kept(s: Input) -> Input
 // Reads on behind the bytes that are left, which are moved to the front. Where nothing came they are the last line.
 fn refill<R: Read>(s: Input, from: &mut Source<R>, buf: &mut [u8]) -> Step
     requires { Within s buf.old }
-    ensures { (Within result.input buf.new) × (Refilled s result) }
+    ensures is { (Within result.input buf.new) × (Refilled s result) }
+    ensures failed { source_failed from.old ≡ true → from.new ≡ from.old }
 {
     let k = kept(s);
     let start = k.at;
@@ -153,7 +155,9 @@ fn taken(s: Input, buf: &[u8]) -> Step
 // The next line, or more bytes where no line is whole. After the last line `more` is false.
 pub fn next_line<R: Read>(s: Input, from: &mut Source<R>, buf: &mut [u8]) -> Step
     requires { Within s buf.old }
-    ensures { (Within result.input buf.new) × (Next s (taken_of s buf.old) result (taken_of s buf.old).line) }
+    ensures next { (Within result.input buf.new) × (Next s (taken_of s buf.old) result (taken_of s buf.old).line) }
+    ensures whole { ((taken_of s buf.old).line ≡ Line.Nothing → ⊥) → (from.new ≡ from.old) × (buf.new ≡ buf.old) }
+    ensures failed { source_failed from.old ≡ true → from.new ≡ from.old }
 {
     let t = taken(s, buf);
     let line = t.line;
