@@ -2,13 +2,20 @@
 use Prim.Native.Nat.{ℕ, ◌≤◌, ◌+◌, ◌-◌}
 use mathlib.Core.Path.{◌≡◌, sym, ap, ◌∙◌}
 use mathlib.Core.Bool.{true, false}
-use mathlib.Core.List.{List}
+use mathlib.Core.List.{List, ◌++◌}
 use native.Mathlib.Omega.{arith}
-use lib.ListN.{drop, length-take}
+use lib.ListN.{length, take, drop, length-take, length-drop}
+use lib.Seq.{length-take-le, take_at, drop_at, take-append-le}
 use borrow.Author.Tests.{eq-eqb, ne_eqb}
-use Rattle.fields.specs.Text.{first_of}
-use Rattle.fields.proofs.Lines.{find_le}
-use Rattle.lines.specs.Lines.{waiting, line_of, last_of, kept_of, taken_by, taken_of, Refilled, Next}
+use borrow.Rule.Slice.PartMut.{put_mid, post_of}
+use Rattle.std.proofs.Common.{le_refl}
+use Rattle.std.proofs.lemmas.List.{drop-take, drop_all}
+use Rattle.std.proofs.lemmas.Slice.{take-put_mid_below}
+use Rattle.std.specs.declared.option.Option.{Option}
+use Rattle.std.specs.Io.KnownBytes.{Consumes}
+use Rattle.fields.specs.Text.{first_of, moved_to}
+use Rattle.fields.proofs.Lines.{find_le, moved_length}
+use Rattle.lines.specs.Lines.{waiting, line_of, last_of, kept_of, kept_count, taken_by, taken_of, Refilled, ReadOn, Next}
 use Rattle.lines.specs.declared.Input.{Input}
 use Rattle.lines.specs.declared.Step.{Step}
 use Rattle.lines.specs.declared.Line.{Line}
@@ -51,3 +58,44 @@ module _ (s : Input) {k : Input} {left : ℕ} (kept : k ≡ kept_of s) (moved : 
 
   pub refilled_more : {came : ℕ} → (came ≡ 0 → ⊥) → Refilled s (record { input = record { at = 0; have = left + came; long = k.long; more = true }; line = Nothing })
   refilled_more {came} z = record { came = came; is = rw (ne_eqb came 0 z, moved, kept) }
+
+-- ---- the buffer after reading on: the bytes that are kept were moved to its front, and ys was read behind them
+module _ (k : Input) (buf ys : List ℕ) (room : ℕ) (ordered : k.at ≤ k.have) (within : k.have ≤ length buf) where
+  abbrev after : List ℕ
+  after = put_mid (k.have - k.at) room (moved_to buf k.at (k.have - k.at)) ys
+
+  moved_front : take (k.have - k.at) (moved_to buf k.at (k.have - k.at)) ≡ waiting k buf
+  unfolding moved_to
+  moved_front =
+      let n = k.have - k.at in
+      take_at (take n (drop k.at buf)) (drop n buf) n (length-take-le n (drop k.at buf) (omega (arith, length-drop k.at buf)))
+
+  fits : k.have - k.at ≤ length (moved_to buf k.at (k.have - k.at))
+  fits = omega (arith, moved_length buf k.at (k.have - k.at))
+
+  front_is : take (k.have - k.at) after ≡ waiting k buf
+  front_is =
+      let n = k.have - k.at in take-put_mid_below n room (moved_to buf k.at n) ys n (le_refl n) fits ∙ moved_front
+
+  behind_is : (came : ℕ) → came ≤ length ys → drop (k.have - k.at) (take (k.have - k.at + came) after) ≡ take came ys
+  behind_is came h =
+      let n = k.have - k.at in
+      let mid = moved_to buf k.at n in
+      let rest = post_of n room mid in
+      drop-take n came after ∙ ap (take came) (drop_at (take n mid) (ys ++ rest) n (length-take-le n mid fits)) ∙ take-append-le came ys rest h
+
+module _ (s : Input) {k : Input} {left : ℕ} {mid : List ℕ} (buf ys : List ℕ) (room : ℕ) {a b : Option (List ℕ)} (kept : k ≡ kept_of s) (moved : (left ≡ k.have - k.at) × (mid ≡ moved_to buf k.at (k.have - k.at)))
+    (ordered : k.at ≤ k.have) (within : k.have ≤ length buf) where
+  pub read_last : {came : ℕ} {l : Line} → came ≡ 0 → Consumes a b (take came ys)
+      → ReadOn s a b buf (put_mid left room mid ys) (record { input = record { at = 0; have = 0; long = false; more = false }; line = l })
+  read_last {came} z h = record {
+    front = rw (moved.0, moved.1, ← kept) (front_is k buf ys room ordered within);
+    bytes = rw (drop_all (kept_count s) (take 0 (put_mid left room mid ys)) (omega arith)) (rw z at h);
+  }
+
+  pub read_more : {came : ℕ} → came ≤ length ys → Consumes a b (take came ys)
+      → ReadOn s a b buf (put_mid left room mid ys) (record { input = record { at = 0; have = left + came; long = k.long; more = true }; line = Nothing })
+  read_more {came} m h = record {
+    front = rw (moved.0, moved.1, ← kept) (front_is k buf ys room ordered within);
+    bytes = rw (moved.0, moved.1, ← kept, behind_is k buf ys room ordered within came m) h;
+  }

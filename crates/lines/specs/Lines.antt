@@ -1,5 +1,7 @@
 -- Where a line lies in the buffer. What is done with as many bytes as came; `Streams` says which a source gives.
 use Rattle.std.specs.Prelude.{ℕ, ◌≤◌, ◌+◌, ◌-◌, ◌≡◌, Bool, true, false, cond, List, [], length, take, drop, eqb, ltb}
+use Rattle.std.specs.declared.option.Option.{Option}
+use Rattle.std.specs.Io.KnownBytes.{Consumes}
 use Rattle.fields.specs.Text.{first_of, part_of}
 use Rattle.lines.specs.declared.Input.{Input}
 use Rattle.lines.specs.declared.Step.{Step}
@@ -47,6 +49,15 @@ read_on k came =
 pub record Refilled (s : Input) (r : Step) : Type 0 where
   pub came : ℕ
   pub is : r ≡ read_on (kept_of s) came
+
+-- how many bytes are kept
+abbrev pub kept_count : Input → ℕ
+kept_count s = (kept_of s).have - (kept_of s).at
+
+-- more was read: the bytes that are kept stand at the front of the buffer, and those that came behind them are what the source gave
+pub record ReadOn (s : Input) (left left' : Option (List ℕ)) (buf buf' : List ℕ) (r : Step) : Type 0 where
+  pub front : take (kept_count s) buf' ≡ waiting (kept_of s) buf
+  pub bytes : Consumes left left' (drop (kept_count s) (take r.input.have buf'))
 
 -- a line that is whole is given; where none is, more is read
 abbrev pub Next : Input → Step → Step → Line → Type 0

@@ -2,8 +2,8 @@
 #![tactic(auto)]
 
 ghost use Rattle.std.specs.Prelude.{◌≡◌, ◌≤◌, true};
-ghost use Rattle.lines.specs.Lines.{Within, start_of, line_of, last_of, kept_of, taken_of, Refilled, Next, bytes_of};
-ghost use Rattle.lines.specs.Streams.{source_failed};
+ghost use Rattle.lines.specs.Lines.{Within, start_of, line_of, last_of, kept_of, taken_of, Refilled, ReadOn, Next, bytes_of};
+ghost use Rattle.lines.specs.Streams.{left_in, source_failed};
 
 mod streams;
 
@@ -96,6 +96,7 @@ fn kept(s: Input) -> Input
 fn refill<R: Read>(s: Input, from: &mut Source<R>, buf: &mut [u8]) -> Step
     requires { Within s buf.old }
     ensures is { (Within result.input buf.new) × (Refilled s result) }
+    ensures came { ReadOn s (left_in R.remaining from.old) (left_in R.remaining from.new) buf.old buf.new result }
     ensures failed { source_failed from.old ≡ true → from.new ≡ from.old }
 {
     let k = kept(s);
@@ -157,6 +158,7 @@ pub fn next_line<R: Read>(s: Input, from: &mut Source<R>, buf: &mut [u8]) -> Ste
     requires { Within s buf.old }
     ensures next { (Within result.input buf.new) × (Next s (taken_of s buf.old) result (taken_of s buf.old).line) }
     ensures whole { ((taken_of s buf.old).line ≡ Line.Nothing → ⊥) → (from.new ≡ from.old) × (buf.new ≡ buf.old) }
+    ensures came { (taken_of s buf.old).line ≡ Line.Nothing → ReadOn s (left_in R.remaining from.old) (left_in R.remaining from.new) buf.old buf.new result }
     ensures failed { source_failed from.old ≡ true → from.new ≡ from.old }
 {
     let t = taken(s, buf);
