@@ -5,7 +5,7 @@ use Rattle.print.specs.Print.{put_in, put_end}
 use Rattle.probes.specs.Judged.{altitude_of, id_of, claimed_of, judged_number}
 use Rattle.vectors.specs.Lines.{word_of, ended_at, whole_in, row_of, readable_row}
 use Rattle.vectors.specs.Replays.{no_cells, no_counts, judged_by, judging_by, one_more, unread_of, missed_by, compared_by, with_cell, cell_after, judging_after, word_cell, word_judging, word_count, word_comment, after}
-use Rattle.vectors.specs.Print.{Put, end_all, row_text, shown_by}
+use Rattle.vectors.specs.Print.{Put, end_all, row_text, shown_by, shown_text}
 use Rattle.vectors.specs.declared.read.Whole.{Whole}
 use Rattle.vectors.specs.declared.read.Row.{Row}
 use Rattle.vectors.specs.declared.replay.Counts.{Counts}
@@ -95,6 +95,15 @@ module _ (c : Counts) (t : List ℕ) where
   pub shown_count : {n : ℕ} {name : List ℕ} → same_bytes (word_of 0 t) word_count ≡ true → n ≡ end_all (replicate 2048 0) 0 (row_text c name) → name ≡ part_of t 6 (length t) → n ≡ shown_by c t
   unfolding shown_by
   shown_count w e h = rw w (e ∙ ap (λ (name : List ℕ). end_all (replicate 2048 0) 0 (row_text c name)) h)
+
+  pub text_row : {n : ℕ} {name out b : List ℕ} → same_bytes (word_of 0 t) word_count ≡ true → Put (replicate 2048 0) 0 (row_text c name) out n → name ≡ part_of t 6 (length t)
+      → b ≡ part_of out 0 n → b ≡ shown_text c t
+  unfolding shown_text
+  text_row w e h f = rw w (f ∙ rw (e.0, e.1, h))
+
+  pub text_none : same_bytes (word_of 0 t) word_count ≡ false → [] ≡ shown_text c t
+  unfolding shown_text
+  text_none w = rw w
 
   pub shown_none : same_bytes (word_of 0 t) word_count ≡ false → 0 ≡ shown_by c t
   unfolding shown_by

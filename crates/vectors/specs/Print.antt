@@ -38,6 +38,15 @@ count_text n what = decimal_text n ∷ what ∷ []
 abbrev pub row_text : Counts → List ℕ → List (List ℕ)
 row_text c name = (name ∷ text_colon ∷ []) ++ (count_text c.vectors text_vectors ++ (count_text c.differ text_differ ++ count_text c.unread text_unread))
 
--- `count NAME`: how many bytes the row has, in a buffer of 2,048
+-- `count NAME`: its row
+abbrev pub row_for : Counts → List ℕ → List (List ℕ)
+row_for c t = row_text c (part_of t 6 (length t))
+
+-- how many bytes the row has, in a buffer of 2,048
 unfoldable pub shown_by : Counts → List ℕ → ℕ
-shown_by c t = cond (same_bytes (word_of 0 t) word_count) (end_all (replicate 2048 0) 0 (row_text c (part_of t 6 (length t)))) 0
+shown_by c t = cond (same_bytes (word_of 0 t) word_count) (end_all (replicate 2048 0) 0 (row_for c t)) 0
+
+-- and those bytes; of another line there are none
+unfoldable pub shown_text : Counts → List ℕ → List ℕ
+shown_text c t =
+    cond (same_bytes (word_of 0 t) word_count) (part_of (put_all (replicate 2048 0) 0 (row_for c t)) 0 (end_all (replicate 2048 0) 0 (row_for c t))) []

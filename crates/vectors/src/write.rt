@@ -1,6 +1,11 @@
 // What was counted, as a row of a table.
-ghost use Rattle.std.specs.Prelude.{◌≡◌};
-ghost use Rattle.vectors.specs.Print.{Put, count_text, row_text, shown_by};
+ghost use Rattle.std.specs.Prelude.{◌≡◌, true, false};
+ghost use Rattle.std.specs.Io.KnownBytes.{Appends};
+ghost use Rattle.fields.specs.Text.{same_bytes};
+ghost use Rattle.lines.specs.Streams.{held_by, sink_failed};
+ghost use Rattle.vectors.specs.Lines.{word_of};
+ghost use Rattle.vectors.specs.Replays.{word_count};
+ghost use Rattle.vectors.specs.Print.{Put, count_text, row_text, shown_by, shown_text};
 
 use crate::read;
 use crate::replay::Counts;
@@ -29,7 +34,10 @@ fn put_counts(out: &mut [u8], c: Counts, name: &[u8]) -> usize
 
 // Where a line is `count NAME`, writes what was counted and answers how many bytes that is.
 pub fn show<W: Write>(to: &mut Sink<W>, c: Counts, t: &[u8]) -> usize
-    ensures { result ≡ shown_by c t.now }
+    ensures count { result ≡ shown_by c t.now }
+    ensures written { sink_failed to.new ≡ false → Appends (held_by W.contents to.old) (held_by W.contents to.new) (shown_text c t.now) }
+    ensures kept { same_bytes (word_of 0 t.now) word_count ≡ false → to.new ≡ to.old }
+    ensures failed { sink_failed to.old ≡ true → to.new ≡ to.old }
 {
     if fields::same(read::word(t, 0), b"count") {
         let mut out = [0u8; 2048];
