@@ -1,5 +1,5 @@
 -- What a line comes to, by its kind; that the watch stays within what is lent; and that its answer is put whole.
-use Rattle.std.proofs.Common.{◌≡◌, ℕ, ◌+◌, ◌<◌, ◌≤◌, Bool, true, false, cond, ltb, List, length, refl, ◌∙◌, arith, ltb-false, le-ltb, lt-ltb, le-leb}
+use Rattle.std.proofs.Common.{◌≡◌, ℕ, ◌+◌, ◌<◌, ◌≤◌, Bool, true, false, cond, ltb, List, [], length, refl, ◌∙◌, arith, ltb-false, le-ltb, lt-ltb, le-leb}
 use Rattle.lines.specs.Lines.{taken_of, Next, bytes_of}
 use Rattle.lines.specs.declared.Step.{Step}
 use Rattle.lines.specs.declared.Line.{Line}
@@ -7,6 +7,7 @@ use Rattle.lines.specs.declared.Line.TheVariants.{At, TooLong, Nothing}
 use Rattle.grammar.specs.Lines.{line_of}
 use Rattle.grammar.specs.declared.Said.{Said}
 use Rattle.readers.specs.declared.Fault.TheVariants as fault
+use Rattle.fields.specs.Text.{part_of}
 use Rattle.print.specs.Print.{put_in}
 use Rattle.lending.specs.Lendings.{Room, lent_to}
 use Rattle.session.specs.Watches.{Ran, Opened, plainly}
@@ -21,7 +22,7 @@ use Rattle.rounds.specs.Rounds.{line_text}
 use Rattle.rounds.proofs.Lengths.{line_length}
 use Rattle.calls.specs.declared.input.After.{After}
 use Rattle.calls.specs.declared.input.State.{State}
-use Rattle.calls.specs.Inputs.{Lent, Came, number_of, room_of, Answered, Stepped}
+use Rattle.calls.specs.Inputs.{Lent, Came, number_of, room_of, written_of, Answered, Stepped}
 
 -- ---- a line, by its kind
 pub came_at : (xs ys ws xs' ys' ws' : List ℕ) (z : Size) (r : Told) (l : Line) (s e : ℕ) (q : Said) → l ≡ At s e → Ran q.line q.key z xs ys ws xs' ys' ws' r → Came l q z xs ys ws xs' ys' ws' r
@@ -52,6 +53,14 @@ room_full n h = rw (lt-ltb 61000 n h)
 pub room_left : (n : ℕ) → n ≤ 61000 → n ≡ room_of n
 unfolding room_of
 room_left n h = rw (le-ltb 61000 n h)
+
+pub written_full : (out : List ℕ) (n : ℕ) → 61000 < n → part_of out 0 n ≡ written_of out n
+unfolding written_of
+written_full out n h = rw (lt-ltb 61000 n h)
+
+pub written_none : (out : List ℕ) (n : ℕ) → n ≤ 61000 → [] ≡ written_of out n
+unfolding written_of
+written_none out n h = rw (le-ltb 61000 n h)
 
 -- an answer starts 4,536 bytes before the buffer's end, or earlier: it is put whole, and a tick's behind it
 room_few : (n : ℕ) → room_of n ≤ 61000

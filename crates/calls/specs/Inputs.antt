@@ -1,5 +1,6 @@
 -- What a line comes to, its number, and its answer in the buffer. What is read and written crate `lines` says of a source and a sink.
-use Rattle.std.specs.Prelude.{◌≡◌, ℕ, ◌+◌, ◌%◌, ◌^◌, cond, List, length, nat_lt}
+use Rattle.std.specs.Prelude.{◌≡◌, ℕ, ◌+◌, ◌%◌, ◌^◌, cond, List, [], length, nat_lt}
+use Rattle.fields.specs.Text.{part_of}
 use Rattle.print.specs.Print.{put_in}
 use Rattle.lines.specs.Lines.{taken_of, Next, bytes_of}
 use Rattle.lines.specs.declared.Step.{Step}
@@ -41,6 +42,10 @@ number_of Nothing n = n
 -- where the next answer goes: answers that fill the buffer nearly are written first
 unfoldable pub room_of : ℕ → ℕ
 room_of n = cond (nat_lt 61000 n) 0 n
+
+-- and what is written then: the n bytes that wait in the buffer, or none
+unfoldable pub written_of : List ℕ → ℕ → List ℕ
+written_of out n = cond (nat_lt 61000 n) (part_of out 0 n) []
 
 -- a line's answer, whole in the buffer, and a tick's, whole behind it: of any line one of the two is empty
 pub record Answered (line : Line) (b : List ℕ) (number : ℕ) (z : Size) (xs ys ws out xs' ys' ws' out' : List ℕ) (n : ℕ) (r : After) : Type 0 where

@@ -1,8 +1,10 @@
 // The list, line by line, and the answers, by a large buffer.
-ghost use Rattle.std.specs.Prelude.{◌≡◌, ◌≤◌, length};
+ghost use Rattle.std.specs.Prelude.{◌≡◌, ◌≤◌, true, false, length};
+ghost use Rattle.std.specs.Io.KnownBytes.{Appends};
 ghost use Rattle.lines.specs.Lines.{Within};
+ghost use Rattle.lines.specs.Streams.{held_by, sink_failed};
 ghost use Rattle.lending.specs.Lendings.{Room};
-ghost use Rattle.calls.specs.Inputs.{Lent, Came, number_of, room_of, Answered, Stepped};
+ghost use Rattle.calls.specs.Inputs.{Lent, Came, number_of, room_of, written_of, Answered, Stepped};
 
 use answers::{Reply, Told};
 use grammar::Said;
@@ -31,7 +33,10 @@ pub struct After {
 
 // Writes the waiting answers where the buffer has little room left.
 fn room<W: Write>(to: &mut Sink<W>, out: &[u8], n: usize) -> usize
-    ensures { result ≡ room_of n }
+    ensures left { result ≡ room_of n }
+    ensures written { sink_failed to.new ≡ false → Appends (held_by W.contents to.old) (held_by W.contents to.new) (written_of out.now n) }
+    ensures kept { n ≤ 61000 → to.new ≡ to.old }
+    ensures failed { sink_failed to.old ≡ true → to.new ≡ to.old }
 {
     if n > 61000 {
         to.write(fields::part(out, 0, n));

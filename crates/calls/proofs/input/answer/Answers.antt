@@ -7,6 +7,6 @@ pub returns : goal.returns
 returns g c =
     let a = c.args in (
       answered_is a.line a.bytes.now a.number a.z a.rows.now a.cells.now a.ends.now a.out.now _ _ _ _ _ a.n c.room-at.result c.put_told-m.result c.put_line-end.result c.tell-told.result
-          c.read-said.result c.tell-told.ensures.0 c.room-at.ensures c.requires.1 c.put_told-m.ensures.0 c.put_told-m.ensures.1 c.read-said.ensures c.put_line-end.ensures,
+          c.read-said.result c.tell-told.ensures.0 c.room-at.ensures.left c.requires.1 c.put_told-m.ensures.0 c.put_told-m.ensures.1 c.read-said.ensures c.put_line-end.ensures,
       search rules,
     )
