@@ -86,16 +86,14 @@ module _ (k : Input) (buf ys : List ℕ) (room : ℕ) (ordered : k.at ≤ k.have
 
 module _ (s : Input) {k : Input} {left : ℕ} {mid : List ℕ} (buf ys : List ℕ) (room : ℕ) {a b : Option (List ℕ)} (kept : k ≡ kept_of s) (moved : (left ≡ k.have - k.at) × (mid ≡ moved_to buf k.at (k.have - k.at)))
     (ordered : k.at ≤ k.have) (within : k.have ≤ length buf) where
-  pub read_last : {came : ℕ} {l : Line} → came ≡ 0 → Consumes a b (take came ys)
-      → ReadOn s a b buf (put_mid left room mid ys) (record { input = record { at = 0; have = 0; long = false; more = false }; line = l })
-  read_last {came} z h = record {
+  pub read_last : {came : ℕ} {r : Step} → r.input.have ≡ 0 → came ≡ 0 → Consumes a b (take came ys) → ReadOn s a b buf (put_mid left room mid ys) r
+  read_last {came} {r} e z h = record {
     front = rw (moved.0, moved.1, ← kept) (front_is k buf ys room ordered within);
-    bytes = rw (drop_all (kept_count s) (take 0 (put_mid left room mid ys)) (omega arith)) (rw z at h);
+    bytes = rw (e, drop_all (kept_count s) (take 0 (put_mid left room mid ys)) (omega arith)) (rw z at h);
   }
 
-  pub read_more : {came : ℕ} → came ≤ length ys → Consumes a b (take came ys)
-      → ReadOn s a b buf (put_mid left room mid ys) (record { input = record { at = 0; have = left + came; long = k.long; more = true }; line = Nothing })
-  read_more {came} m h = record {
+  pub read_more : {came : ℕ} {r : Step} → r.input.have ≡ left + came → came ≤ length ys → Consumes a b (take came ys) → ReadOn s a b buf (put_mid left room mid ys) r
+  read_more {came} {r} e m h = record {
     front = rw (moved.0, moved.1, ← kept) (front_is k buf ys room ordered within);
-    bytes = rw (moved.0, moved.1, ← kept, behind_is k buf ys room ordered within came m) h;
+    bytes = rw (e, moved.0, moved.1, ← kept, behind_is k buf ys room ordered within came m) h;
   }

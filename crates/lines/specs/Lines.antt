@@ -1,4 +1,4 @@
--- Where a line lies in the buffer. What is done with as many bytes as came; `Streams` says which a source gives.
+-- Where a line lies in the buffer, and what is done with the bytes that came; `Streams` says what a source has left.
 use Rattle.std.specs.Prelude.{ℕ, ◌≤◌, ◌+◌, ◌-◌, ◌≡◌, Bool, true, false, cond, List, [], length, take, drop, eqb, ltb}
 use Rattle.std.specs.declared.option.Option.{Option}
 use Rattle.std.specs.Io.KnownBytes.{Consumes}
