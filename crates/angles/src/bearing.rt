@@ -14,8 +14,7 @@ pub fn to_north(s1: Num, c1: u64, s2: Num, c2: u64, cd: Num) -> Num
 {
     let p = num::part(s2, c1);
     let q = num::part(s1, c2);
-    let w = num::scale(q, cd);
-    num::diff(p, w)
+    p - num::scale(q, cd)
 }
 
 // The sector between two of N, E, S, W, of the sizes towards the first, whose sector is k, and the second.
@@ -31,38 +30,22 @@ fn between(west: bool, south: bool, m: u64, n: u64) -> u64
     requires { (0 < m) × (0 < n) }
     ensures { (result ≡ sector (signed west m) (signed south n)) × (result < 8) }
 {
-    if west {
-        if south {
-            return quarter_of(4, n, m);
-        }
-        return quarter_of(6, m, n);
+    match (west, south) {
+        (true, true) => quarter_of(4, n, m),
+        (true, false) => quarter_of(6, m, n),
+        (false, true) => quarter_of(2, m, n),
+        (false, false) => quarter_of(0, n, m),
     }
-    if south {
-        return quarter_of(2, m, n);
-    }
-    quarter_of(0, n, m)
 }
 
 // Of an east y and a north x.
 pub fn sector_of(y: Num, x: Num) -> u64
     ensures { (result ≡ sector (value y) (value x)) × (result < 8) }
 {
-    let m = y.size;
-    let n = x.size;
-    if m == 0 {
-        if n == 0 {
-            return 0;
-        }
-        if x.minus {
-            return 4;
-        }
-        return 0;
+    match (y.size, x.size) {
+        (0, 0) => 0,
+        (0, _) => if x.minus { 4 } else { 0 },
+        (_, 0) => if y.minus { 6 } else { 2 },
+        (m, n) => between(y.minus, x.minus, m, n),
     }
-    if n == 0 {
-        if y.minus {
-            return 6;
-        }
-        return 2;
-    }
-    between(y.minus, x.minus, m, n)
 }

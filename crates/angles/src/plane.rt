@@ -9,9 +9,9 @@ use trig::num::Num;
 
 const M: u64 = 1779121284;
 
-const DEG_180: u64 = 180 * 16777216;
+const DEG_180: u64 = 180 << 24;
 
-const DEG_360: u64 = 360 * 16777216;
+const DEG_360: u64 = 360 << 24;
 
 // A difference of longitudes, brought to -180 up to below 180 degrees.
 pub fn wrapped(d: Num) -> Num
@@ -19,29 +19,13 @@ pub fn wrapped(d: Num) -> Num
     ensures { (value result ≡ wrap (value d)) × (result.size ≤ deg 180) }
 {
     let n = d.size;
-    if d.minus {
-        if n <= DEG_180 {
-            Num {
-                minus: true,
-                size: n,
-            }
-        } else {
-            Num {
-                minus: false,
-                size: DEG_360 - n,
-            }
-        }
+    let stays = if d.minus { n <= DEG_180 } else { n < DEG_180 };
+    if stays {
+        d
     } else {
-        if n < DEG_180 {
-            Num {
-                minus: false,
-                size: n,
-            }
-        } else {
-            Num {
-                minus: true,
-                size: DEG_360 - n,
-            }
+        Num {
+            minus: !d.minus,
+            size: DEG_360 - n,
         }
     }
 }
@@ -51,10 +35,9 @@ pub fn to_mm(d: Num) -> Num
     requires { d.size ≤ deg 180 }
     ensures { value result ≡ mm (value d) }
 {
-    let n = d.size;
     Num {
         minus: d.minus,
-        size: n * M / 268435456,
+        size: d.size * M / (1 << 28),
     }
 }
 

@@ -26,7 +26,6 @@ use Rattle.readers.specs.declared.Name.TheVariants as name
 use Rattle.readers.specs.declared.Fault.{Fault}
 use Rattle.readers.specs.declared.Fault.TheVariants as fault
 use Rattle.answers.specs.declared.Reply.TheVariants as reply
-use Rattle.answers.specs.declared.Told.{Told}
 
 -- ---- the parts
 one_of_two : (b : Bool) (s t : List ℕ) (n : ℕ) → length s ≤ n → length t ≤ n → length (cond b s t) ≤ n
@@ -162,18 +161,18 @@ wrong_length f number line =
     counted_length (spell "error ") number (spell ": " then fault_text f line then spell "\n") (omega arith)
     (omega (arith, two (fault_text f line) (spell "\n") 64 1 (fault_length f line) (omega arith)))
 
-reply_length : (r : Reply) (w : Word) (pushed : Bool) (key : List ℕ) (number : ℕ) (line : List ℕ) → length (reply_text r w pushed key number line) ≤ 128
-reply_length reply.Nothing w pushed key number line = omega arith
-reply_length reply.Answered w pushed key number line = call_length w pushed key
-reply_length (reply.Place p) w pushed key number line = counted_length (spell "place ") p (spell "\n") (omega arith) (omega arith)
-reply_length (reply.Same b) w pushed key number line = counted_length (spell "same ") (bit_of b) (spell "\n") (omega arith) (omega arith)
-reply_length (reply.Horizon km) w pushed key number line = hexed_length (spell "horizon ") (to_bits binary64 km) (omega arith)
-reply_length (reply.Bucket b) w pushed key number line = counted_length (spell "bucket ") b (spell "\n") (omega arith) (omega arith)
-reply_length (reply.Bit k) w pushed key number line = counted_length (spell "bit ") k (spell "\n") (omega arith) (omega arith)
-reply_length (reply.No q) w pushed key number line = counted_length (spell "no ") q (spell "\n") (omega arith) (omega arith)
-reply_length (reply.Digest d) w pushed key number line = hexed_length (spell "digest ") d (omega arith)
-reply_length (reply.Wrong f) w pushed key number line = wrong_length f number line
+reply_length : (r : Reply) (number : ℕ) (line : List ℕ) → length (reply_text r number line) ≤ 128
+reply_length reply.Nothing number line = omega arith
+reply_length (reply.Answered a) number line = call_length a.word a.pushed a.key
+reply_length (reply.Place p) number line = counted_length (spell "place ") p (spell "\n") (omega arith) (omega arith)
+reply_length (reply.Same b) number line = counted_length (spell "same ") (bit_of b) (spell "\n") (omega arith) (omega arith)
+reply_length (reply.Horizon km) number line = hexed_length (spell "horizon ") (to_bits binary64 km) (omega arith)
+reply_length (reply.Bucket b) number line = counted_length (spell "bucket ") b (spell "\n") (omega arith) (omega arith)
+reply_length (reply.Bit k) number line = counted_length (spell "bit ") k (spell "\n") (omega arith) (omega arith)
+reply_length (reply.No q) number line = counted_length (spell "no ") q (spell "\n") (omega arith) (omega arith)
+reply_length (reply.Digest d) number line = hexed_length (spell "digest ") d (omega arith)
+reply_length (reply.Wrong f) number line = wrong_length f number line
 
-pub text_length : (t : Told) (number : ℕ) (line : List ℕ) → length (text_of t number line) ≤ 128
+pub text_length : (r : Reply) (number : ℕ) (line : List ℕ) → length (text_of r number line) ≤ 128
 unfolding text_of
-text_length t number line = reply_length t.reply t.answer.word t.answer.pushed t.answer.key number line
+text_length r number line = reply_length r number line

@@ -1,5 +1,4 @@
 -- Laws that the proofs of more than one function, or of other crates, cite.
 pub mod Writing
-pub mod Saying
 pub mod Lengths
 pub mod Telling

@@ -17,7 +17,6 @@ use Rattle.answers.specs.declared.Reply.{Reply}
 use Rattle.readers.specs.declared.Fault.{Fault}
 use Rattle.readers.specs.declared.Fault.TheVariants as fault
 use Rattle.answers.specs.declared.Reply.TheVariants as reply
-use Rattle.answers.specs.declared.Told.{Told}
 
 -- ---- `error LINE: what is wrong`
 
@@ -93,21 +92,21 @@ bit_of b = cond b 1 0
 abbrev pub wrong_text : Fault → ℕ → List ℕ → List ℕ
 wrong_text f number line = spell "error " then decimal_text number then spell ": " then fault_text f line then spell "\n"
 
-abbrev pub reply_text : Reply → Word → Bool → List ℕ → ℕ → List ℕ → List ℕ
-reply_text reply.Nothing w pushed key number line = []
-reply_text reply.Answered w pushed key number line = call_text w pushed key
-reply_text (reply.Place p) w pushed key number line = spell "place " then decimal_text p then spell "\n"
-reply_text (reply.Same b) w pushed key number line = spell "same " then decimal_text (bit_of b) then spell "\n"
-reply_text (reply.Horizon km) w pushed key number line = spell "horizon " then bits_text (to_bits binary64 km) then spell "\n"
-reply_text (reply.Bucket b) w pushed key number line = spell "bucket " then decimal_text b then spell "\n"
-reply_text (reply.Bit k) w pushed key number line = spell "bit " then decimal_text k then spell "\n"
-reply_text (reply.No q) w pushed key number line = spell "no " then decimal_text q then spell "\n"
-reply_text (reply.Digest d) w pushed key number line = spell "digest " then bits_text d then spell "\n"
-reply_text (reply.Wrong f) w pushed key number line = wrong_text f number line
+abbrev pub reply_text : Reply → ℕ → List ℕ → List ℕ
+reply_text reply.Nothing number line = []
+reply_text (reply.Answered a) number line = call_text a.word a.pushed a.key
+reply_text (reply.Place p) number line = spell "place " then decimal_text p then spell "\n"
+reply_text (reply.Same b) number line = spell "same " then decimal_text (bit_of b) then spell "\n"
+reply_text (reply.Horizon km) number line = spell "horizon " then bits_text (to_bits binary64 km) then spell "\n"
+reply_text (reply.Bucket b) number line = spell "bucket " then decimal_text b then spell "\n"
+reply_text (reply.Bit k) number line = spell "bit " then decimal_text k then spell "\n"
+reply_text (reply.No q) number line = spell "no " then decimal_text q then spell "\n"
+reply_text (reply.Digest d) number line = spell "digest " then bits_text d then spell "\n"
+reply_text (reply.Wrong f) number line = wrong_text f number line
 
--- of what the line was told, its number and its bytes
-unfoldable pub text_of : Told → ℕ → List ℕ → List ℕ
-text_of t number line = reply_text t.reply t.answer.word t.answer.pushed t.answer.key number line
+-- of the reply to a line, its number and its bytes
+unfoldable pub text_of : Reply → ℕ → List ℕ → List ℕ
+text_of r number line = reply_text r number line
 
 -- ---- the buffer
 

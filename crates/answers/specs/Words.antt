@@ -1,6 +1,6 @@
 -- The words of the answers (README, 'A list of calls'), as bytes. Definitions only.
 use Rattle.std.specs.Prelude.{ℕ, List, ◌++◌}
-use Rattle.fields.specs.Text.{spell, first_of, part_of}
+use Rattle.fields.specs.Text.{spell}
 use Rattle.readers.specs.declared.Name.{Name}
 use Rattle.readers.specs.declared.Name.TheVariants as name
 
@@ -49,13 +49,3 @@ name_text name.K = spell "K"
 name_text name.Next = spell "NEXT"
 name_text name.Room = spell "ROOM"
 name_text name.Now = spell "NOW"
-
--- HOW THE CODE KEEPS THEM: one text, each word up to the bar (124) behind it
-abbrev pub words : List ℕ
-words = spell "|place |same |horizon |bucket |bit |digest |no |ok|ok |ok unjudged|ok fits|ok wrong | horizon| nearfield| nothingnear| | -|\n|error |: | missing| is not a number|unexpected field after |KEY is not 1 to 64 hex digits|stray space|stray comma|stray carriage return|line is longer than 1024 bytes|unknown call '|'|C is above 64, the most rows that are served|N is above 214016, the most cells that are served|I is past the rows|I is past the cells|A|ADDRESS|AFTER|AIRCRAFT|ALT|AT_MS|B|BEFORE|the call|N|DISTANCE|EVEN|FEET|FIRST|FREE|GEN|KEY|LAST|LAT|LAT1|LAT2|LON|LON1|LON2|MOVED|NOW_MS|I|ODD|OTHERS|C|SITE|WORD|VERDICT|WRONGS|K|NEXT|ROOM|NOW|"
-
-abbrev pub word_in : List ℕ → List ℕ
-word_in rest = part_of rest 0 (first_of 124 rest)
-
-unfoldable pub word_at : ℕ → List ℕ
-word_at at = word_in (part_of words at 638)

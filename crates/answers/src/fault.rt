@@ -1,72 +1,56 @@
-// What is wrong with a line: a word, a field's name, what is shown of the line's first bytes, a word; each may be none.
-ghost use Rattle.std.specs.Prelude.{◌≡◌};
-ghost use Rattle.answers.specs.Answers.{fault_text, stray_text};
-ghost use Rattle.answers.specs.Words.{◌then◌, name_text, word_at};
-ghost use Rattle.answers.specs.Phrases.{Blames};
+// What is wrong with a line.
+#![tactic(auto, using(crate::proofs::Writing::wrote_then, crate::proofs::Writing::wrote_shown))]
 
+ghost use Rattle.fields.specs.Text.{part_of};
+ghost use Rattle.answers.specs.Answers.{shown_text, fault_text, Wrote};
+ghost use Rattle.answers.specs.Words.{◌then◌};
+
+use crate::put::put_word;
 use crate::words;
-use readers::{Fault, Name};
+use readers::Fault;
 
-#[derive(Clone, Copy)]
-pub struct Blame {
-    pub lead: usize,
-    pub name: usize,
-    pub end: usize,
-    pub tail: usize,
-}
-
-fn only(lead: usize) -> Blame
-    ensures { Blames result (λ line. word_at lead) }
+fn put_two(out: &mut [u8], n: usize, first: &[u8], second: &[u8]) -> usize
+    ensures { Wrote out.old n (first.now then second.now) out.new result }
 {
-    Blame {
-        lead,
-        name: words::NONE,
-        end: 0,
-        tail: words::NONE,
-    }
+    let a = put_word(out, n, first);
+    put_word(out, a, second)
 }
 
-fn of_name(lead: usize, name: Name, tail: usize) -> Blame
-    ensures { Blames result (λ line. word_at lead then name_text name then word_at tail) }
+// The word that ends at `end` of the line, as far as it can be shown.
+fn put_shown(out: &mut [u8], n: usize, line: &[u8], end: usize) -> usize
+    ensures { Wrote out.old n (shown_text (part_of line.now 0 end)) out.new result }
 {
-    Blame {
-        lead,
-        name: words::name_at(name),
-        end: 0,
-        tail,
-    }
+    let word = fields::part(line, 0, end);
+    put_word(out, n, fields::part(word, 0, fields::shown(word)))
 }
 
-fn stray(sep: u8) -> usize
-    ensures { word_at result ≡ stray_text sep }
+fn put_unknown(out: &mut [u8], n: usize, line: &[u8], end: usize) -> usize
+    ensures { Wrote out.old n (fault_text (Fault.Unknown end) line.now) out.new result }
 {
-    if sep == b' ' {
-        words::STRAY_SPACE
-    } else {
-        words::STRAY_COMMA
-    }
+    let a = put_word(out, n, b"unknown call '");
+    let b = put_shown(out, a, line, end);
+    put_word(out, b, b"'")
 }
 
-pub fn of_fault(fault: Fault) -> Blame
-    ensures { Blames result (fault_text fault) }
+pub fn put_fault(out: &mut [u8], n: usize, fault: Fault, line: &[u8]) -> usize
+    ensures { Wrote out.old n (fault_text fault line.now) out.new result }
 {
     match fault {
-        Fault::Missing(name) => of_name(words::NONE, name, words::MISSING),
-        Fault::NotNumber(name) => of_name(words::NONE, name, words::NOT_NUMBER),
-        Fault::NotKey => only(words::NOT_KEY),
-        Fault::Extra(name) => of_name(words::EXTRA, name, words::NONE),
-        Fault::Stray { sep } => only(stray(sep)),
-        Fault::StrayReturn => only(words::STRAY_RETURN),
-        Fault::TooLong => only(words::TOO_LONG),
-        Fault::Unknown { end } => Blame {
-            lead: words::UNKNOWN,
-            name: words::NONE,
-            end,
-            tail: words::QUOTE,
-        },
-        Fault::TooManyRows => only(words::TOO_MANY_ROWS),
-        Fault::TooManyCells => only(words::TOO_MANY_CELLS),
-        Fault::NoSuchRow => only(words::NO_SUCH_ROW),
-        Fault::NoSuchCell => only(words::NO_SUCH_CELL),
+        Fault::Missing(name) => put_two(out, n, words::of_name(name), b" missing"),
+        Fault::NotNumber(name) => put_two(out, n, words::of_name(name), b" is not a number"),
+        Fault::NotKey => put_word(out, n, b"KEY is not 1 to 64 hex digits"),
+        Fault::Extra(name) => put_two(out, n, b"unexpected field after ", words::of_name(name)),
+        Fault::Stray { sep } => put_word(out, n, words::of_stray(sep)),
+        Fault::StrayReturn => put_word(out, n, b"stray carriage return"),
+        Fault::TooLong => put_word(out, n, b"line is longer than 1024 bytes"),
+        Fault::Unknown { end } => put_unknown(out, n, line, end),
+        Fault::TooManyRows => put_word(out, n, b"C is above 64, the most rows that are served"),
+        Fault::TooManyCells => put_word(
+            out,
+            n,
+            b"N is above 214016, the most cells that are served",
+        ),
+        Fault::NoSuchRow => put_word(out, n, b"I is past the rows"),
+        Fault::NoSuchCell => put_word(out, n, b"I is past the cells"),
     }
 }

@@ -1,32 +1,31 @@
-// An answer's parts, put into a buffer one after the other.
-ghost use Rattle.fields.specs.Text.{part_of};
-ghost use Rattle.print.specs.Print.{digits};
-ghost use Rattle.answers.specs.Words.{◌then◌, word_at};
-ghost use Rattle.answers.specs.Answers.{shown_text, fault_text, key_text, Wrote};
-ghost use Rattle.answers.specs.Phrases.{value_text, rest_text, phrase_text};
+// An answer's parts, each put behind the one before. There is no heap, so the buffer and the place in it stand for a string that grows.
+#![tactic(auto, using(crate::proofs::Writing::wrote_put, crate::proofs::Writing::wrote_none, crate::proofs::Writing::wrote_then, crate::proofs::Writing::wrote_byte, crate::proofs::Writing::bytes_none, crate::proofs::Writing::bytes_on))]
 
-use crate::fault;
-use crate::phrase::{Form, Phrase, Rest};
-use crate::words::put_word;
-use readers::Fault;
+ghost use Rattle.std.specs.Prelude.{◌≡◌, ◌*◌, drop, get_or};
+ghost use Rattle.print.specs.Print.{digits, decimal_text, bits_text};
+ghost use Rattle.answers.specs.Words.{◌then◌};
+ghost use Rattle.answers.specs.Answers.{key_text, Wrote};
 
-fn put_value(out: &mut [u8], n: usize, form: Form, value: u64) -> usize
-    ensures { Wrote out.old n (value_text form value) out.new result }
+pub fn put_word(out: &mut [u8], n: usize, word: &[u8]) -> usize
+    ensures { Wrote out.old n word.now out.new result }
 {
-    match form {
-        Form::Nothing => n,
-        Form::Decimal => print::put_decimal(out, n, value),
-        Form::Hex => print::put_bits(out, n, value),
-    }
+    print::put(out, n, word)
 }
 
-fn put_front(out: &mut [u8], n: usize, p: Phrase) -> usize
-    ensures { Wrote out.old n (word_at p.head then value_text p.form p.value then word_at p.tail) out.new result }
+// A word and a number.
+pub fn put_number(out: &mut [u8], n: usize, word: &[u8], v: u64) -> usize
+    ensures { Wrote out.old n (word.now then decimal_text v) out.new result }
 {
-    let form = p.form;
-    let a = put_word(out, n, p.head);
-    let b = put_value(out, a, form, p.value);
-    put_word(out, b, p.tail)
+    let a = put_word(out, n, word);
+    print::put_decimal(out, a, v)
+}
+
+// A word and a number of 16 hex digits.
+pub fn put_hex(out: &mut [u8], n: usize, word: &[u8], v: u64) -> usize
+    ensures { Wrote out.old n (word.now then bits_text v) out.new result }
+{
+    let a = put_word(out, n, word);
+    print::put_bits(out, a, v)
 }
 
 // Two hex digits, the last of sixteen.
@@ -35,54 +34,26 @@ pub fn put_byte(out: &mut [u8], n: usize, byte: u8) -> usize
 {
     let mut own = [0u8; 16];
     print::put_bits(&mut own, 0, byte as u64);
-    print::put(out, n, &own[14..])
+    put_word(out, n, &own[14..])
 }
 
-fn put_key(out: &mut [u8], n: usize, key: [u8; 32]) -> usize
-    ensures { Wrote out.old n (key_text key) out.new result }
+fn byte_at(list: &[u8], i: usize) -> u8
+    ensures { result ≡ get_or list.now i 0 }
 {
+    if i < list.len() {
+        return list[i];
+    }
+    0
+}
+
+// Key i of a list of keys; a byte behind the list's end is 0.
+pub fn put_key(out: &mut [u8], n: usize, list: &[u8], i: u32) -> usize
+    ensures { Wrote out.old n (key_text (drop (32 * i) list.now)) out.new result }
+{
+    let from = 32 * (i as usize);
     let mut at = n;
-    let mut i = 0;
-    while i < 32 {
-        at = put_byte(out, at, key[i]);
-        i += 1;
+    for j in 0..32 {
+        at = put_byte(out, at, byte_at(list, from + j));
     }
     at
-}
-
-// The word that ends at `end` of the line, as far as it can be shown.
-fn put_shown(out: &mut [u8], n: usize, line: &[u8], end: usize) -> usize
-    ensures { Wrote out.old n (shown_text (part_of line.now 0 end)) out.new result }
-{
-    let word = fields::part(line, 0, end);
-    print::put(out, n, fields::part(word, 0, fields::shown(word)))
-}
-
-fn put_fault(out: &mut [u8], n: usize, fault: Fault, line: &[u8]) -> usize
-    ensures { Wrote out.old n (fault_text fault line.now) out.new result }
-{
-    let b = fault::of_fault(fault);
-    let i = put_word(out, n, b.lead);
-    let j = put_word(out, i, b.name);
-    let k = put_shown(out, j, line, b.end);
-    put_word(out, k, b.tail)
-}
-
-fn put_rest(out: &mut [u8], n: usize, rest: Rest, key: [u8; 32], line: &[u8]) -> usize
-    ensures { Wrote out.old n (rest_text rest key line.now) out.new result }
-{
-    match rest {
-        Rest::Nothing => n,
-        Rest::Key => put_key(out, n, key),
-        Rest::Fault(fault) => put_fault(out, n, fault, line),
-    }
-}
-
-pub fn put_phrase(out: &mut [u8], n: usize, p: Phrase, key: [u8; 32], line: &[u8]) -> usize
-    ensures { Wrote out.old n (phrase_text p key line.now) out.new result }
-{
-    let rest = p.rest;
-    let i = put_front(out, n, p);
-    let j = put_rest(out, i, rest, key, line);
-    put_word(out, j, p.end)
 }

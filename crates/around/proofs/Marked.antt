@@ -9,28 +9,13 @@ use borrow.Author.Tests.{eqb-true, eqb-false}
 use lib.Dec.{ltb, eqb}
 use lib.ListN.{length, get_or, set, replicate, length-set}
 use lib.Seq.{ext_get_or, get_or-set_same, get_or-set_other}
+use Rattle.std.proofs.Math.Bool.{or-true, or-false, and-true, and-false}
 use Rattle.cells.specs.Passes.{pass, how_many, some, table}
 use Rattle.cells.proofs.Passes.{table_same, table_length, table_at}
 use Rattle.plane.specs.Plane.{east_of, north_of, dist, within25, over3, sector_from}
 use Rattle.around.specs.Marks.{occ, near, in_sector, marks_of}
 use Rattle.around.specs.Counts.{counts_of, span_of}
 use Rattle.around.proofs.Counts.{count_mono, count_skip, count_span, some_more, heard_at_lem}
-
-or_true : (t : Bool) → (t || true) ≡ true
-or_true true = refl
-or_true false = refl
-
-pub or_false : (t : Bool) → (t || false) ≡ t
-or_false true = refl
-or_false false = refl
-
-pub and_true : (t : Bool) → (t && true) ≡ t
-and_true true = refl
-and_true false = refl
-
-pub and_false : (t : Bool) → (t && false) ≡ false
-and_false true = refl
-and_false false = refl
 
 same : (b t : Bool) → cond b t t ≡ t
 same true t = refl
@@ -40,7 +25,7 @@ same false t = refl
 pub mark_table :
     (f f' : ℕ → Bool) (n s : ℕ) (t : Bool) → s < n → ((k : ℕ) → f' k ≡ cond (eqb s k) (f k || t) (f k))
     → cond t (set (table f n) s true) (table f n) ≡ table f' n
-mark_table f f' n s false l h = table_same f f' n (λ k m. sym (h k ∙ ap (λ (u : Bool). cond (eqb s k) u (f k)) (or_false (f k)) ∙ same (eqb s k) (f k)))
+mark_table f f' n s false l h = table_same f f' n (λ k m. sym (h k ∙ ap (λ (u : Bool). cond (eqb s k) u (f k)) (or-false (f k)) ∙ same (eqb s k) (f k)))
 mark_table f f' n s true l h =
     ext_get_or false (set (table f n) s true) (table f' n) (len ∙ sym (table_length f' false n))
     (λ i m. at i (omega (arith, len)) (eqb s i) refl ∙ sym (table_at f' false n i (omega (arith, len)))) where
@@ -51,7 +36,7 @@ mark_table f f' n s true l h =
       at i m true e =
           ap (λ (k : ℕ). get_or (set (table f n) s true) k false) (sym (eqb-true s i e))
           ∙ get_or-set_same (table f n) s true false (let e2 = table_length f false n in omega arith)
-          ∙ sym (h i ∙ ap (λ (b : Bool). cond b (f i || true) (f i)) e ∙ or_true (f i))
+          ∙ sym (h i ∙ ap (λ (b : Bool). cond b (f i || true) (f i)) e ∙ or-true (f i))
       at i m false e =
           get_or-set_other (table f n) s i true false (λ q. eqb-false s i e (sym q)) ∙ table_at f false n i m
           ∙ sym (h i ∙ ap (λ (b : Bool). cond b (f i || true) (f i)) e)
@@ -67,14 +52,14 @@ module _ (g : List ℕ) (x y : ℕ) where
 
   lies_marks : (s k i : ℕ) → Lies x y s (east_of i) (north_of i) → marks k i ≡ (occ g i && eqb s k)
   unfolding near in_sector
-  lies_marks s k i l = rw (l.0, l.1, l.2, and_true (occ g i))
+  lies_marks s k i l = rw (l.0, l.1, l.2, and-true (occ g i))
 
   pub near_none : (i : ℕ) → near g x y i ≡ false → (k : ℕ) → marks k i ≡ false
   near_none i e k = ap (λ (b : Bool). b && in_sector x y k i) e
 
   pub low_none : (i : ℕ) → over3 (dist (east_of i) (north_of i) x y) ≡ false → (k : ℕ) → marks k i ≡ false
   unfolding in_sector
-  low_none i e k = rw (e, and_false (near g x y i))
+  low_none i e k = rw (e, and-false (near g x y i))
 
   pub marks_skip : (a b : ℕ) → a ≤ b → ((i : ℕ) → a ≤ i → i < b → (k : ℕ) → marks k i ≡ false) → marks_of g x y a ≡ marks_of g x y b
   unfolding marks_of
@@ -89,10 +74,10 @@ module _ (g : List ℕ) (x y : ℕ) where
     by : (t : Bool) → eqb s k ≡ t → some (marks k) b ≡ cond t (some (marks k) a || ltb (how_many (occ g) a) (how_many (occ g) b)) (some (marks k) a)
     by true e =
         some_more (how_many (marks k) b) (how_many (marks k) a) (how_many (occ g) a) (how_many (occ g) b)
-        (count_span (marks k) (occ g) a b l (λ i m n. lies_marks s k i (h i m n) ∙ ap (λ (u : Bool). occ g i && u) e ∙ and_true (occ g i)))
+        (count_span (marks k) (occ g) a b l (λ i m n. lies_marks s k i (h i m n) ∙ ap (λ (u : Bool). occ g i && u) e ∙ and-true (occ g i)))
         (count_mono (occ g) a b l)
     by false e =
-        ap (ltb 0) (count_skip (marks k) a b l (λ i m n. lies_marks s k i (h i m n) ∙ ap (λ (u : Bool). occ g i && u) e ∙ and_false (occ g i)))
+        ap (ltb 0) (count_skip (marks k) a b l (λ i m n. lies_marks s k i (h i m n) ∙ ap (λ (u : Bool). occ g i && u) e ∙ and-false (occ g i)))
 
   -- a span of a row whose cells lie in sector s, from the counts before its ends
   pub span_marks :

@@ -6,12 +6,13 @@ use mathlib.Core.List.{List}
 use Prim.Native.Nat.{ℕ, zero, suc, ◌+◌, ◌-◌, ◌*◌, ◌%◌, ◌≤◌, ◌<◌, min}
 use native.Mathlib.Omega.{arith}
 use borrow.Author.Tests.{lt-ltb, le-leb, lt-leb}
+use Rattle.std.proofs.Math.Bool.{and-true, and-false}
 use Rattle.plane.specs.Plane.{east_of, north_of, apart, square, dist, over3, sector_from}
 use Rattle.around.specs.Marks.{occ, near, marks_of}
 use Rattle.around.specs.Counts.{counts_of, cut_at, span_of}
 use Rattle.plane.proofs.Squares.{square_le, far_square, two_apart}
 use Rattle.plane.proofs.Sectors.{in_0, in_1, in_2, in_3, in_4, in_5, in_6, in_7}
-use Rattle.around.proofs.Marked.{Lies, and_true, and_false, near_none, low_none, marks_skip, span_marks}
+use Rattle.around.proofs.Marked.{Lies, near_none, low_none, marks_skip, span_marks}
 
 -- m half cells north or south, those within 25 km lie at most h east or west
 abbrev pub Reach : ℕ → ℕ → Type 0
@@ -140,7 +141,7 @@ own x y i p q = rw (p, q)
 -- ---- near, or not
 pub far_off : (g : List ℕ) (x y i : ℕ) → 100 < dist (east_of i) (north_of i) x y → near g x y i ≡ false
 unfolding near
-far_off g x y i h = rw (lt-leb (dist (east_of i) (north_of i) x y) 100 h, and_false (occ g i))
+far_off g x y i h = rw (lt-leb (dist (east_of i) (north_of i) x y) 100 h, and-false (occ g i))
 
 pub rows_off : (g : List ℕ) (x y i : ℕ) → 11 ≤ apart (north_of i) y → near g x y i ≡ false
 rows_off g x y i h = far_off g x y i (omega (arith, far_square (apart (north_of i) y) h))
@@ -169,7 +170,7 @@ module _ (g : List ℕ) (x y row m h : ℕ) (hx : x < 80) (hr : row < 40) (em : 
   within i p q =
       let t = part row (x - h) (x + h + 1) i p q in
       let n : apart (north_of i) y ≡ m = ap (λ (z : ℕ). apart z y) t.0 ∙ sym em in
-      rw (n, le-leb (square (apart (east_of i) x) + square m) 100 (omega (arith, square_le (near_by (east_of i) t.1 t.2), r.0))) (and_true (occ g i))
+      rw (n, le-leb (square (apart (east_of i) x) + square m) 100 (omega (arith, square_le (near_by (east_of i) t.1 t.2), r.0))) (and-true (occ g i))
 
   start : (ms : List Bool) → ms ≡ marks_of g x y (40 * row) → ms ≡ marks_of g x y (cut_at row (x - h))
   start ms e = e ∙ marks_skip g x y (40 * row) (cut_at row (x - h)) (cut_start row (x - h)) (λ i p q. near_none g x y i (west_off i p q))

@@ -1,7 +1,7 @@
 // Around a place of the grid: the sectors, the aircraft bits and the cells within 25 km.
 #![tactic(auto)]
 
-ghost use Rattle.std.specs.Prelude.{◌≡◌, ◌%◌, ◌≤◌, ◌<◌};
+ghost use Rattle.std.specs.Prelude.{◌≡◌, ◌%◌, ◌≤◌, ◌<◌, cond, set, true};
 ghost use Rattle.around.specs.Marks.{around_of, sectors_in};
 
 pub mod spans;
@@ -14,15 +14,24 @@ pub struct Nearby {
     pub cells: u32,
 }
 
+// The marks with that of a sector, if it is heard.
+pub fn with_mark(mut marks: [bool; 8], sector: usize, heard: bool) -> [bool; 8]
+    requires { sector < 8 }
+    ensures { result ≡ cond heard (set marks sector true) marks }
+{
+    if heard {
+        marks[sector] = true;
+    }
+    marks
+}
+
 // How many sectors are marked.
 pub fn sectors(marks: [bool; 8]) -> u32
     ensures { (result ≡ sectors_in marks) × (result ≤ 8) }
 {
-    let mut n: u32 = 0;
-    let mut k = 0;
-    while k < 8 {
-        n += plane::part(marks[k], 1);
-        k += 1;
+    let mut n = 0;
+    for mark in &marks {
+        n += *mark as u32;
     }
     n
 }

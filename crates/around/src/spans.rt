@@ -14,12 +14,10 @@ pub fn heard_before(grid: &[u32; 1600]) -> [u32; 1601]
     ensures { result ≡ counts_of grid.now }
 {
     let mut heard = [0u32; 1601];
-    let mut n: u32 = 0;
-    let mut i = 0;
-    while i < 1600 {
-        n += plane::part(cells::occupied(grid[i]), 1);
-        i += 1;
-        heard[i] = n;
+    let mut n = 0;
+    for (i, w) in grid.iter().enumerate() {
+        n += cells::occupied(*w) as u32;
+        heard[i + 1] = n;
     }
     heard
 }
@@ -28,8 +26,7 @@ pub fn heard_before(grid: &[u32; 1600]) -> [u32; 1601]
 fn centres_under(z: u32) -> usize
     ensures { (result ≡ under z) × (result ≤ 40) }
 {
-    let n = (z / 2) as usize;
-    if n < 40 { n } else { 40 }
+    (z / 2).min(40) as usize
 }
 
 // The first cell of a row whose centre is not.
@@ -38,6 +35,14 @@ fn cut(row: usize, z: u32) -> usize
     ensures { (result ≡ cut_at row z) × (result ≤ 1600) }
 {
     40 * row + centres_under(z)
+}
+
+// How many half cells north or south of a place a row lies.
+fn row_off(row: usize, y: u32) -> u32
+    requires { row < 40 }
+    ensures { result ≡ apart (2 * row + 1) y }
+{
+    (2 * (row as u32) + 1).abs_diff(y)
 }
 
 // How many half cells east or west, at most, those within 25 km lie that are m half cells north or south.
@@ -67,16 +72,12 @@ pub fn reach(m: u32) -> u32
 }
 
 // The marks with that of a sector, if its span of a row holds a cell.
+#[tactic(auto, unfolding(crate::specs::Counts::span_of))]
 fn span(heard: &[u32; 1601], marks: [bool; 8], from: usize, to: usize, sector: usize) -> [bool; 8]
     requires { (from ≤ 1600) × (to ≤ 1600) × (sector < 8) }
     ensures { result ≡ span_of heard.now marks from to sector }
 {
-    if heard[from] < heard[to] {
-        let mut m = marks;
-        m[sector] = true;
-        return m;
-    }
-    marks
+    super::with_mark(marks, sector, heard[from] < heard[to])
 }
 
 // A row m half cells north of the place.
@@ -84,12 +85,12 @@ fn north_row(heard: &[u32; 1601], marks: [bool; 8], x: u32, y: u32, row: usize) 
     requires { (x < 80) × (row < 40) × (x % 2 ≡ y % 2) × (y < 2 * row + 1) × (2 * row + 1 ≤ y + 10) }
     ensures { (g : List ℕ) → heard.now ≡ counts_of g → marks ≡ marks_of g x y (40 * row) → result ≡ marks_of g x y (40 * (row + 1)) }
 {
-    let m = plane::between(2 * (row as u32) + 1, y);
+    let m = row_off(row, y);
     let h = reach(m);
-    let west = cut(row, plane::less(x, h));
-    let north_west = cut(row, plane::less(x, plane::lesser(m, h)));
+    let west = cut(row, x.saturating_sub(h));
+    let north_west = cut(row, x.saturating_sub(m.min(h)));
     let north = cut(row, x);
-    let north_east = cut(row, x + plane::lesser(m, h + 1));
+    let north_east = cut(row, x + m.min(h + 1));
     let east = cut(row, x + h + 1);
     let a = span(heard, marks, west, north_west, 6);
     let b = span(heard, a, north_west, north, 7);
@@ -102,12 +103,12 @@ fn south_row(heard: &[u32; 1601], marks: [bool; 8], x: u32, y: u32, row: usize) 
     requires { (x < 80) × (row < 40) × (x % 2 ≡ y % 2) × (2 * row + 1 < y) × (y ≤ 2 * row + 11) }
     ensures { (g : List ℕ) → heard.now ≡ counts_of g → marks ≡ marks_of g x y (40 * row) → result ≡ marks_of g x y (40 * (row + 1)) }
 {
-    let m = plane::between(2 * (row as u32) + 1, y);
+    let m = row_off(row, y);
     let h = reach(m);
-    let west = cut(row, plane::less(x, h));
-    let south_west = cut(row, plane::less(x + 1, plane::lesser(m, h + 1)));
+    let west = cut(row, x.saturating_sub(h));
+    let south_west = cut(row, (x + 1).saturating_sub(m.min(h + 1)));
     let south = cut(row, x + 1);
-    let south_east = cut(row, x + plane::lesser(m, h) + 1);
+    let south_east = cut(row, x + m.min(h) + 1);
     let east = cut(row, x + h + 1);
     let a = span(heard, marks, west, south_west, 5);
     let b = span(heard, a, south_west, south, 4);
@@ -121,7 +122,7 @@ fn level_row(heard: &[u32; 1601], marks: [bool; 8], x: u32, row: usize) -> [bool
     ensures { (g : List ℕ) → heard.now ≡ counts_of g → marks ≡ marks_of g x (2 * row + 1) (40 * row) → result ≡ marks_of g x (2 * row + 1) (40 * (row + 1)) }
 {
     let h = reach(0);
-    let a = span(heard, marks, cut(row, plane::less(x, h)), cut(row, x), 6);
+    let a = span(heard, marks, cut(row, x.saturating_sub(h)), cut(row, x), 6);
     span(heard, a, cut(row, x + 1), cut(row, x + h + 1), 2)
 }
 
@@ -146,12 +147,12 @@ pub fn marks_around(heard: &[u32; 1601], x: u32, y: u32) -> [bool; 8]
     ensures { (g : List ℕ) → heard.now ≡ counts_of g → result ≡ marks_of g x y 1600 }
 {
     let mut m = [false; 8];
-    let mut row = centres_under(plane::less(y, 10));
+    let from = centres_under(y.saturating_sub(10));
     let end = centres_under(y + 11);
-    while row < end {
+    for row in from..end {
+        // by way of a name: the prover takes no array that a call lays into a variable of a loop
         let next = row_marks(heard, m, x, y, row);
         m = next;
-        row += 1;
     }
     m
 }
@@ -161,8 +162,8 @@ fn row_cells(heard: &[u32; 1601], x: u32, y: u32, row: usize) -> u32
     requires { ((g : List ℕ) × (heard.now ≡ counts_of g)) × (x < 80) × (y < 80) × (row < 40) × (apart (2 * row + 1) y ≤ 10) }
     ensures { ((g : List ℕ) → heard.now ≡ counts_of g → how_many (near g x y) (40 * row) + result ≡ how_many (near g x y) (40 * (row + 1))) × (result ≤ 40) }
 {
-    let h = reach(plane::between(2 * (row as u32) + 1, y));
-    let from = heard[cut(row, plane::less(x, h))];
+    let h = reach(row_off(row, y));
+    let from = heard[cut(row, x.saturating_sub(h))];
     let to = heard[cut(row, x + h + 1)];
     to - from
 }
@@ -172,12 +173,11 @@ pub fn cells_around(heard: &[u32; 1601], x: u32, y: u32) -> u32
     requires { ((g : List ℕ) × (heard.now ≡ counts_of g)) × (x < 80) × (y < 80) }
     ensures { (g : List ℕ) → heard.now ≡ counts_of g → result ≡ how_many (near g x y) 1600 }
 {
-    let mut n: u32 = 0;
-    let mut row = centres_under(plane::less(y, 10));
+    let mut n = 0;
+    let from = centres_under(y.saturating_sub(10));
     let end = centres_under(y + 11);
-    while row < end {
+    for row in from..end {
         n += row_cells(heard, x, y, row);
-        row += 1;
     }
     n
 }
@@ -198,13 +198,12 @@ fn row_bits(grid: &[u32; 1600], bits: u32, x: u32, y: u32, row: usize) -> u32
     requires { (x < 80) × (y < 80) × (row < 40) × (apart (2 * row + 1) y ≤ 10) × (bits ≡ bits_in (near grid.now x y) grid.now (40 * row)) }
     ensures { result ≡ bits_in (near grid.now x y) grid.now (40 * (row + 1)) }
 {
-    let h = reach(plane::between(2 * (row as u32) + 1, y));
+    let h = reach(row_off(row, y));
     let mut out = bits;
-    let mut i = cut(row, plane::less(x, h));
+    let from = cut(row, x.saturating_sub(h));
     let end = cut(row, x + h + 1);
-    while i < end {
+    for i in from..end {
         out = or_bits(out, grid[i]);
-        i += 1;
     }
     out
 }
@@ -214,12 +213,11 @@ pub fn bits_around(grid: &[u32; 1600], x: u32, y: u32) -> u32
     requires { (x < 80) × (y < 80) }
     ensures { result ≡ bits_in (near grid.now x y) grid.now 1600 }
 {
-    let mut bits: u32 = 0;
-    let mut row = centres_under(plane::less(y, 10));
+    let mut bits = 0;
+    let from = centres_under(y.saturating_sub(10));
     let end = centres_under(y + 11);
-    while row < end {
+    for row in from..end {
         bits = row_bits(grid, bits, x, y, row);
-        row += 1;
     }
     bits
 }
@@ -229,15 +227,14 @@ pub fn enough_bits(grid: &[u32; 1600], x: u32, y: u32) -> bool
     requires { (x < 80) × (y < 80) }
     ensures { result ≡ leb 8 (ones (bits_in (near grid.now x y) grid.now 1600)) }
 {
-    let mut bits: u32 = 0;
-    let mut row = centres_under(plane::less(y, 10));
+    let mut bits = 0;
+    let from = centres_under(y.saturating_sub(10));
     let end = centres_under(y + 11);
-    while row < end {
+    for row in from..end {
         bits = row_bits(grid, bits, x, y, row);
-        if 8 <= u32::count_ones(bits) {
+        if 8 <= bits.count_ones() {
             return true;
         }
-        row += 1;
     }
     false
 }

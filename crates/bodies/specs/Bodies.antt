@@ -1,5 +1,5 @@
 -- What a call does to the body of one row, its part and its cells, by the row that was found or the number of the first no. Definitions only.
-use Rattle.std.specs.Prelude.{ℕ, ◌+◌, ◌*◌, ◌≤◌, Bool, true, false, cond, List, take, drop}
+use Rattle.std.specs.Prelude.{ℕ, ◌+◌, ◌*◌, ◌≤◌, Bool, true, false, cond, List, take, drop, Option}
 use Rattle.heard.specs.declared.Heard.{Heard}
 use Rattle.receiver.specs.declared.Part.{Part}
 use Rattle.heard.specs.declared.Claiming.{Claiming}
@@ -15,7 +15,6 @@ use Rattle.rows.specs.declared.Row.{Row}
 use Rattle.std.proofs.lemmas.List.Edits.{sets}
 use Rattle.near_field.specs.declared.Judgment.{Judgment}
 use Rattle.near_field.specs.declared.Judgment.TheVariants as Found
-use Rattle.verdicts.specs.declared.JudgedAt.{JudgedAt}
 use Rattle.scans.specs.declared.Look.{Look}
 use Rattle.scans.specs.declared.Look.TheVariants as L
 use Rattle.rows.specs.Links.{with_part}
@@ -69,7 +68,7 @@ counted_by Hearings.Late l = l
 counted_by (Hearings.In c) l = counting_is c l
 
 -- JUDGING: the row that was found, unless it is too soon, which is 9
-abbrev pub due_look : Look → JudgedAt → ℕ → Look
+abbrev pub due_look : Look → Option ℕ → ℕ → Look
 due_look (L.No n) kept now = L.No n
 due_look (L.At i) kept now = cond (too_soon kept now) (L.No 9) (L.At i)
 

@@ -16,8 +16,8 @@ use near_field::Judgment;
 use receiver::Part;
 use rows::Row;
 use scans::Look;
-use sites::Claimed;
-use verdicts::{Judged, JudgedAt};
+use sites::Site;
+use verdicts::Verdict;
 
 // ---- one row's cells, in those of all rows
 
@@ -109,7 +109,7 @@ pub fn judge_at(cells: &[u32], l: Look, heard: Heard, now_ms: u64, aircraft: u64
 // ---- claim
 
 // What the claim comes to on a row.
-pub fn claiming(row: Row, site: Claimed) -> Claiming
+pub fn claiming(row: Row, site: Option<Site>) -> Claiming
     requires { site_fits row.part.heard.site ≡ true }
     ensures { (l : List ℕ) → claiming_is result l ≡ claimed row.part.heard l site }
 {
@@ -149,7 +149,7 @@ pub fn heard_of(c: Claiming) -> Heard
 }
 
 // A move ends the verdict's run.
-fn ended_if(t: bool, v: Judged) -> Judged
+fn ended_if(t: bool, v: Option<Verdict>) -> Option<Verdict>
     ensures { result ≡ cond t (run_ended v) v }
 {
     if t { verdicts::ended(v) } else { v }
@@ -245,7 +245,7 @@ pub fn judged_part(row: Row, now_ms: u64, j: Judgment) -> Row
         Part {
             heard: heard,
             verdict: verdicts::judged_next(verdict, j),
-            judged_ms: JudgedAt::At(now_ms),
+            judged_ms: Some(now_ms),
         },
     )
 }

@@ -1,49 +1,27 @@
--- What a line comes to, by its kind; that the watch stays within what is lent; and that its answer is put whole.
-use Rattle.std.proofs.Common.{◌≡◌, ℕ, ◌+◌, ◌<◌, ◌≤◌, Bool, true, false, cond, ltb, List, [], length, refl, ◌∙◌, arith, ltb-false, le-ltb, lt-ltb, le-leb}
-use Rattle.lines.specs.Lines.{taken_of, Next, bytes_of}
-use Rattle.lines.specs.declared.Step.{Step}
+-- Where an answer goes, that it is put whole, and what a run of turns writes.
+use Rattle.std.proofs.Common.{◌≡◌, ℕ, ◌+◌, ◌<◌, ◌≤◌, Bool, true, false, cond, ltb, List, [], ◌++◌, length, refl, sym, ap, ◌∙◌, arith, ltb-false, le-ltb, lt-ltb, le-leb, Option, Some, None, Result, Ok, Err}
+use Rattle.table.specs.Rows.{Watch}
+use Rattle.receiver.specs.declared.Part.{Part}
 use Rattle.lines.specs.declared.Line.{Line}
-use Rattle.lines.specs.declared.Line.TheVariants.{At, TooLong, Nothing}
 use Rattle.grammar.specs.Lines.{line_of}
 use Rattle.grammar.specs.declared.Said.{Said}
-use Rattle.readers.specs.declared.Fault.TheVariants as fault
+use Rattle.readers.specs.declared.Fault.{Fault}
 use Rattle.fields.specs.Text.{part_of}
 use Rattle.print.specs.Print.{put_in}
-use Rattle.lending.specs.Lendings.{Room, lent_to}
-use Rattle.session.specs.Watches.{Ran, Opened, plainly}
+use Rattle.lending.specs.Lendings.{lent_to}
 use Rattle.lending.specs.declared.Size.{Size}
-use Rattle.answers.specs.declared.Told.{Told}
 use Rattle.answers.specs.declared.Reply.{Reply}
-use Rattle.answers.specs.declared.Reply.TheVariants as reply
 use Rattle.answers.specs.Answers.{text_of, answered_in, answered_end, Wrote}
 use Rattle.answers.proofs.Lengths.{text_length}
 use Rattle.answers.proofs.Writing.{put_length}
-use Rattle.rounds.specs.Rounds.{line_text}
 use Rattle.rounds.proofs.Lengths.{line_length}
-use Rattle.calls.specs.declared.input.After.{After}
-use Rattle.calls.specs.declared.input.State.{State}
-use Rattle.calls.specs.Inputs.{Lent, Came, number_of, room_of, written_of, Answered, Stepped}
-
--- ---- a line, by its kind
-pub came_at : (xs ys ws xs' ys' ws' : List ℕ) (z : Size) (r : Told) (l : Line) (s e : ℕ) (q : Said) → l ≡ At s e → Ran q.line q.key z xs ys ws xs' ys' ws' r → Came l q z xs ys ws xs' ys' ws' r
-unfolding Came
-came_at xs ys ws xs' ys' ws' z r l s e q f k = rw f k
-
-pub came_long : (xs ys ws : List ℕ) (z : Size) (r : Told) (l : Line) (q : Said) → l ≡ TooLong → r ≡ plainly z (reply.Wrong fault.TooLong) → Came l q z xs ys ws xs ys ws r
-unfolding Came
-came_long xs ys ws z r l q f g = rw f (g, refl, refl, refl)
-
-pub came_none : (xs ys ws : List ℕ) (z : Size) (r : Told) (l : Line) (q : Said) → l ≡ Nothing → r ≡ plainly z reply.Nothing → Came l q z xs ys ws xs ys ws r
-unfolding Came
-came_none xs ys ws z r l q f g = rw f (g, refl, refl, refl)
-
-pub plain_lent : (xs ys : List ℕ) (z : Size) (p : Reply) (r : Told) → Lent z xs ys → r ≡ plainly z p → Lent r.size xs ys
-plain_lent xs ys z p r h g = rw g h
-
--- the fresh watch of one row
-pub opened_lent : (xs ys ws xs' ys' ws' : List ℕ) (z : Size) (r : Told) → Opened 1 z xs ys ws xs' ys' ws' r → Room xs ys → length xs' ≡ length xs → length ys' ≡ length ys → Lent r.size xs' ys'
-unfolding Opened
-opened_lent xs ys ws xs' ys' ws' z r h room lx ly = record { within = rw h.2 (omega arith, omega arith); room = (omega arith, omega arith) }
+use Rattle.std.specs.Io.KnownBytes.{Appends}
+use Rattle.std.proofs.KnownBytes.{Appends-nil, Appends-trans}
+use Rattle.lines.specs.declared.streams.Stream.{Stream}
+use Rattle.lines.specs.Streams.{held_by, sink_failed}
+use Rattle.session.specs.Watches.{Watched}
+use Rattle.calls.specs.Turns.{Held, Stepped, Turns, none, turn, Told}
+use Rattle.calls.specs.Inputs.{Came, room_of, written_of, tick_of, Answered}
 
 -- ---- where the answer goes
 pub room_full : (n : ℕ) → 61000 < n → 0 ≡ room_of n
@@ -70,35 +48,68 @@ room_few n = by (ltb 61000 n) refl where
   by true e = omega arith
   by false e = ltb-false 61000 n e
 
+tick_few : (w : Watch Part) (q : Result (Option Said) Fault) → length (tick_of w q) ≤ 4300
+tick_few w (Ok (Some s)) = line_length w s.line
+tick_few w (Ok None) = omega arith
+tick_few w (Err f) = omega arith
+
 -- what is put whole where it fits, and fits
 fitting : (out s out' : List ℕ) (n r : ℕ) → Wrote out n s out' r → n + length s ≤ length out → (r ≡ n + length s) × (out' ≡ put_in out n s)
 unfolding Wrote
 fitting out s out' n r w h = w h
 
-module _ (line : Line) (b : List ℕ) (number : ℕ) (z : Size) (xs ys ws out xs' ys' ws' out1 out' : List ℕ) (n at m r : ℕ) (told : Told) (said : Said) where
-  pub answered_is : Came line said z xs ys ws xs' ys' ws' told → at ≡ room_of n → 65536 ≤ length out → m ≡ answered_end out at (text_of told number b) → out1 ≡ answered_in out at (text_of told number b)
-      → said ≡ line_of b → Wrote out1 m (line_text (lent_to told.size xs' ys' ws') said.line) out' r
-      → Answered line b number z xs ys ws out xs' ys' ws' out' n (record { size = told.size; n = r })
+module _ (line : Line) (b : List ℕ) (number : ℕ) (z : Size) (xs ys ws out : List ℕ) (n : ℕ) (z' : Size) (xs' ys' ws' out1 out' : List ℕ) (at m r : ℕ) (reply : Reply) (asked : Result (Option Said) Fault) where
+  pub answered_is : asked ≡ line_of b → Came line asked z xs ys ws z' xs' ys' ws' reply → at ≡ room_of n → 65536 ≤ length out → m ≡ answered_end out at (text_of reply number b) → out1 ≡ answered_in out at (text_of reply number b)
+      → Wrote out1 m (tick_of (lent_to z' xs' ys' ws') asked) out' r
+      → Answered line b number z xs ys ws out n z' xs' ys' ws' out' r
   unfolding answered_end answered_in
-  answered_is e f h i j g w =
-      let text = text_of told number b in
-      let tick = line_text (lent_to told.size xs' ys' ws') (line_of b).line in
+  answered_is g e f h i j w =
+      let text = text_of reply number b in
+      let tick = tick_of (lent_to z' xs' ys' ws') (line_of b) in
       let t = le-leb (room_of n + 128) (length out) (omega (arith, room_few n)) in
       let end : m ≡ room_of n + length text = i ∙ (rw (f, t)) in
       let put : out1 ≡ put_in out (room_of n) text = j ∙ (rw (f, t)) in
-      let whole : length (put_in out (room_of n) text) ≡ length out = put_length out (room_of n) text (omega (arith, room_few n, text_length told number b)) in
+      let whole : length (put_in out (room_of n) text) ≡ length out = put_length out (room_of n) text (omega (arith, room_few n, text_length reply number b)) in
       let both = fitting (put_in out (room_of n) text) tick out' (room_of n + length text) r (rw (g, end, put) at w)
-      (omega (arith, whole, room_few n, text_length told number b, line_length (lent_to told.size xs' ys' ws') (line_of b).line)) in
-      record { told = told; came = rw g at e; size = refl; end = both.0; put = both.1 }
+      (omega (arith, whole, room_few n, text_length reply number b, tick_few (lent_to z' xs' ys' ws') (line_of b))) in
+      record { reply = reply; came = rw g at e; end = both.0; put = both.1 }
 
-pub stepped_is : (s : State) (buf xs ys ws out buf' xs' ys' ws' out' b : List ℕ) (got : Step) (after : After) (number : ℕ) → Next s.input (taken_of s.input buf) got (taken_of s.input buf).line
-    → number ≡ number_of got.line s.lines → b ≡ bytes_of buf' got.line → Answered got.line b number s.size xs ys ws out xs' ys' ws' out' s.n after
-    → Stepped s buf xs ys ws out buf' xs' ys' ws' out' (record { input = got.input; size = after.size; n = after.n; lines = number })
-stepped_is s buf xs ys ws out buf' xs' ys' ws' out' b got after number h e f a =
-    record {
-      got = got;
-      after = after;
-      next = h;
-      answered = rw (e, f) at a;
-      is = rw e;
-    }
+-- ---- the run
+-- turns in a row from a to b, and what they have written; y is what the sink holds now
+pub record Going (a b : Held) (x y : Option (List ℕ)) (failed : Bool) : Type 0 where
+  pub text : List ℕ
+  pub turns : Turns a b text
+  pub written : failed ≡ false → Appends x y text
+
+pub going_start : (a : Held) (x : Option (List ℕ)) (f : Bool) → Going a a x x f
+going_start a x f = record { text = []; turns = none; written = λ _. Appends-nil x }
+
+module _ {W : Type 0} (contents : W → Option (List ℕ)) (s t : Stream W) (h : sink_failed s ≡ true → t ≡ s) where
+  -- after an error the sink stays as it is
+  was_sound : sink_failed t ≡ false → sink_failed s ≡ false
+  was_sound k = by (sink_failed s) refl where
+    by : (b : Bool) → sink_failed s ≡ b → b ≡ false
+    by false e = refl
+    by true e = sym e ∙ sym (ap sink_failed (h e)) ∙ k
+
+  pub going_more : (a b c : Held) (x : Option (List ℕ)) → Going a b x (held_by contents s) (sink_failed s) → Stepped b c → (sink_failed t ≡ false → Appends (held_by contents s) (held_by contents t) (written_of b.out b.n))
+      → Going a c x (held_by contents t) (sink_failed t)
+  going_more a b c x g k w = record {
+    text = g.text ++ written_of b.out b.n;
+    turns = turn b c g.text g.turns k;
+    written = λ sound. Appends-trans x (held_by contents s) (held_by contents t) g.text (written_of b.out b.n) (g.written (was_sound sound)) (w sound);
+  }
+
+  pub told_is : (a first last : Held) (x : Option (List ℕ)) (reply : Reply) → Watched 1 a.size a.rows a.cells a.ends first.size first.rows first.cells first.ends reply
+      → first ≡ record a { size = first.size; rows = first.rows; cells = first.cells; ends = first.ends } → Going first last x (held_by contents s) (sink_failed s)
+      → (sink_failed t ≡ false → Appends (held_by contents s) (held_by contents t) (part_of last.out 0 last.n)) → sink_failed t ≡ false → Told a x (held_by contents t)
+  told_is a first last x reply o e g w sound = record {
+    first = first;
+    last = last;
+    text = g.text;
+    reply = reply;
+    opened = o;
+    begun = e;
+    turns = g.turns;
+    written = Appends-trans x (held_by contents s) (held_by contents t) g.text (part_of last.out 0 last.n) (g.written (was_sound sound)) (w sound);
+  }

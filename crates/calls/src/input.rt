@@ -1,67 +1,31 @@
 // The list, line by line, and the answers, by a large buffer.
-ghost use Rattle.std.specs.Prelude.{◌≡◌, ◌≤◌, true, false, length};
+ghost use Rattle.std.specs.Prelude.{◌≡◌, true, false};
 ghost use Rattle.std.specs.Io.KnownBytes.{Appends};
-ghost use Rattle.lines.specs.Lines.{Within};
 ghost use Rattle.lines.specs.Streams.{held_by, sink_failed};
-ghost use Rattle.lending.specs.Lendings.{Room};
-ghost use Rattle.calls.specs.Inputs.{Lent, Came, number_of, room_of, written_of, Answered, Stepped};
+ghost use Rattle.lending.specs.Lendings.{Room, lent_to};
+ghost use Rattle.answers.specs.Answers.{Wrote};
+ghost use Rattle.calls.specs.Inputs.{Came, number_of, written_of, tick_of, Answered};
+ghost use Rattle.calls.specs.Turns.{held, Stepped, Told};
 
-use answers::{Reply, Told};
+use crate::output::Output;
+use answers::Reply;
 use grammar::Said;
-use lending::Size;
-use lines::{Input, Line, Sink, Source};
+use lending::Watch;
+use lines::{Line, Lines};
 use readers::Fault;
 use std::io::{Read, Write};
 
-#[derive(Clone, Copy)]
-pub struct State {
-    pub input: Input,
-    // How large the watch is.
-    pub size: Size,
-    // The bytes of answers that wait in the output's buffer.
-    pub n: usize,
-    // The lines that were read.
-    pub lines: u64,
-}
-
-// How large the watch is, and how many bytes wait, after a line was answered.
-#[derive(Clone, Copy)]
-pub struct After {
-    pub size: Size,
-    pub n: usize,
-}
-
-// Writes the waiting answers where the buffer has little room left.
-fn room<W: Write>(to: &mut Sink<W>, out: &[u8], n: usize) -> usize
-    ensures left { result ≡ room_of n }
-    ensures written { sink_failed to.new ≡ false → Appends (held_by W.contents to.old) (held_by W.contents to.new) (written_of out.now n) }
-    ensures kept { n ≤ 61000 → to.new ≡ to.old }
-    ensures failed { sink_failed to.old ≡ true → to.new ≡ to.old }
-{
-    if n > 61000 {
-        to.write(fields::part(out, 0, n));
-        0
-    } else {
-        n
-    }
-}
-
 // What a line comes to, whose bytes ask for this.
-fn tell(
-    z: Size,
-    rows: &mut [u64],
-    cells: &mut [u32],
-    ends: &mut [u32; 3],
-    line: Line,
-    said: Said,
-) -> Told
-    requires { Lent z rows.old cells.old }
-    ensures { Came line said z rows.old cells.old ends.old rows.new cells.new ends.new result × Lent result.size rows.new cells.new }
+#[tactic(auto, unfolding(crate::specs::Inputs::Came))]
+fn tell(w: &mut Watch<'_>, line: Line, asked: Result<Option<Said>, Fault>) -> Reply
+    requires { Room w.old.rows.now w.old.cells.now }
+    ensures comes { Came line asked w.old.size w.old.rows.now w.old.cells.now w.old.ends.now w.new.size w.new.rows.now w.new.cells.now w.new.ends.now result }
+    ensures room { Room w.new.rows.now w.new.cells.now }
 {
     match line {
-        Line::At { start: _, end: _ } => session::answer(z, rows, cells, ends, said),
-        Line::TooLong => session::plain(z, Reply::Wrong(Fault::TooLong)),
-        Line::Nothing => session::plain(z, Reply::Nothing),
+        Line::At { .. } => session::answer(w, asked),
+        Line::TooLong => Reply::Wrong(Fault::TooLong),
+        Line::Nothing => Reply::Nothing,
     }
 }
 
@@ -70,96 +34,65 @@ fn number_of(line: Line, lines: u64) -> u64
     ensures { result ≡ number_of line lines }
 {
     match line {
-        Line::At { start: _, end: _ } => std::num::wrapping_add_u64(lines, 1),
-        Line::TooLong => std::num::wrapping_add_u64(lines, 1),
+        Line::At { .. } | Line::TooLong => std::num::wrapping_add_u64(lines, 1),
         Line::Nothing => lines,
     }
 }
 
-// Runs a line, and puts its answer; a tick's is the turn keeper's, which leaves the watch as it is.
-fn answer<W: Write>(
-    to: &mut Sink<W>,
-    z: Size,
-    rows: &mut [u64],
-    cells: &mut [u32],
-    ends: &mut [u32; 3],
-    line: Line,
-    bytes: &[u8],
-    number: u64,
-    out: &mut [u8],
-    n: usize,
-) -> After
-    requires { Lent z rows.old cells.old × (65536 ≤ length out.old) }
-    ensures { Answered line bytes.now number z rows.old cells.old ends.old out.old rows.new cells.new ends.new out.new n result × Lent result.size rows.new cells.new }
+// Puts a tick's answer, which is the turn keeper's and leaves the watch as it is.
+#[tactic(auto, using(answers::proofs::Writing::wrote_none))]
+fn tick(w: &Watch<'_>, asked: Result<Option<Said>, Fault>, out: &mut [u8], n: usize) -> usize
+    ensures { Wrote out.old n (tick_of (lent_to w.now.size w.now.rows.now w.now.cells.now w.now.ends.now) asked) out.new result }
 {
-    let said = grammar::read(bytes);
-    let told = tell(z, rows, cells, ends, line, said);
-    let size = told.size;
-    let at = room(to, out, n);
-    let m = answers::put_told(out, at, told, number, bytes);
-    let asked = said.line;
-    let end = rounds::put_line(size, rows, cells, ends, asked, out, m);
-    After { size, n: end }
+    match asked {
+        Ok(Some(said)) => rounds::put_line(w, said.line, out, n),
+        Ok(None) => n,
+        Err(_) => n,
+    }
+}
+
+// Runs a line, and puts its answer behind those that wait.
+fn answer<W: Write>(w: &mut Watch<'_>, out: &mut Output<'_, W>, line: Line, bytes: &[u8])
+    requires { Room w.old.rows.now w.old.cells.now }
+    ensures answered { Answered line bytes.now out.old.lines w.old.size w.old.rows.now w.old.cells.now w.old.ends.now out.old.buf.now out.old.n w.new.size w.new.rows.now w.new.cells.now w.new.ends.now out.new.buf.now out.new.n }
+    ensures lines { out.new.lines ≡ out.old.lines }
+    ensures written { sink_failed out.new.to ≡ false → Appends (held_by W.contents out.old.to) (held_by W.contents out.new.to) (written_of out.old.buf.now out.old.n) }
+    ensures failed { sink_failed out.old.to ≡ true → out.new.to ≡ out.old.to }
+    ensures room { Room w.new.rows.now w.new.cells.now }
+{
+    let asked = grammar::read(bytes);
+    let reply = tell(w, line, asked);
+    out.room();
+    let at = out.n;
+    let end = answers::put_reply(out.buf, at, reply, out.lines, bytes);
+    out.n = tick(w, asked, out.buf, end);
 }
 
 // Answers the next line, or reads more where no line is whole.
-fn step<R: Read, W: Write>(
-    s: State,
-    from: &mut Source<R>,
-    to: &mut Sink<W>,
-    rows: &mut [u64],
-    cells: &mut [u32],
-    ends: &mut [u32; 3],
-    buf: &mut [u8],
-    out: &mut [u8],
-) -> State
-    requires { Within s.input buf.old × Lent s.size rows.old cells.old × (65536 ≤ length out.old) }
-    ensures { Stepped s buf.old rows.old cells.old ends.old out.old buf.new rows.new cells.new ends.new out.new result × Within result.input buf.new × Lent result.size rows.new cells.new }
+fn step<R: Read, W: Write>(list: &mut Lines<'_, R>, w: &mut Watch<'_>, out: &mut Output<'_, W>)
+    requires { Room w.old.rows.now w.old.cells.now }
+    ensures stepped { Stepped (held list.old w.old out.old) (held list.new w.new out.new) }
+    ensures written { sink_failed out.new.to ≡ false → Appends (held_by W.contents out.old.to) (held_by W.contents out.new.to) (written_of out.old.buf.now out.old.n) }
+    ensures failed { sink_failed out.old.to ≡ true → out.new.to ≡ out.old.to }
+    ensures room { Room w.new.rows.now w.new.cells.now }
 {
-    let input = s.input;
-    let z = s.size;
-    let got = lines::next_line(input, from, buf);
-    let line = got.line;
-    let rest = got.input;
-    let number = number_of(line, s.lines);
-    let bytes = lines::bytes(line, buf);
-    let after = answer(to, z, rows, cells, ends, line, bytes, number, out, s.n);
-    let size = after.size;
-    State {
-        input: rest,
-        size,
-        n: after.n,
-        lines: number,
-    }
+    let line = list.next_line();
+    out.lines = number_of(line, out.lines);
+    let bytes = list.bytes(line);
+    answer(w, out, line, bytes);
 }
 
 // Before the first line there is a fresh watch of one row. A proved loop has to end, and nothing says that the input does. So the loop has as many turns as no run uses up.
-pub fn run<R: Read, W: Write>(
-    from: &mut Source<R>,
-    to: &mut Sink<W>,
-    rows: &mut [u64],
-    cells: &mut [u32],
-    ends: &mut [u32; 3],
-    buf: &mut [u8],
-    out: &mut [u8],
-)
-    requires { Room rows.old cells.old × (65536 ≤ length out.old) }
-    ensures { length out.new ≡ length out.old }
+pub fn run<R: Read, W: Write>(list: &mut Lines<'_, R>, w: &mut Watch<'_>, out: &mut Output<'_, W>)
+    requires { Room w.old.rows.now w.old.cells.now }
+    ensures { sink_failed out.new.to ≡ false → Told (held list.old w.old out.old) (held_by W.contents out.old.to) (held_by W.contents out.new.to) }
 {
-    let z = session::sized(1);
-    let first = session::open(z, rows, cells, ends, 1);
-    let size = first.size;
-    let mut s = State {
-        input: lines::start(),
-        size,
-        n: 0,
-        lines: 0,
-    };
+    let _ = session::watch(w, 1);
     for _ in 0..u64::MAX {
-        if !s.input.more {
+        if !list.more() {
             break;
         }
-        s = step(s, from, to, rows, cells, ends, buf, out);
+        step(list, w, out);
     }
-    to.write(fields::part(out, 0, s.n));
+    out.flush();
 }

@@ -2,10 +2,13 @@
 #![tactic(auto)]
 
 mod input;
+mod output;
 
 ghost use Rattle.std.specs.Prelude.{◌≡◌, length};
 
-use lines::{Sink, Source};
+use lending::{Size, Watch};
+use lines::{Lines, Sink, Source};
+use output::Output;
 use std::io;
 
 // The words of 64 rows.
@@ -23,16 +26,20 @@ fn cell_words() -> [u32; 214016]
 }
 
 fn main(rt: HostRuntime) -> io::Result<()> {
-    let mut from = Source::new(rt.stdin());
-    let mut to = Sink::new(rt.stdout());
     let mut rows = row_words();
     let mut cells = cell_words();
     let mut ends = [0u32; 3];
     let mut buf = [0u8; 65536];
     let mut out = [0u8; 65536];
-    input::run(
-        &mut from, &mut to, &mut rows, &mut cells, &mut ends, &mut buf, &mut out,
-    );
-    from.end()?;
-    to.end()
+    let mut watch = Watch {
+        size: Size { rows: 0, cells: 0 },
+        rows: &mut rows,
+        cells: &mut cells,
+        ends: &mut ends,
+    };
+    let mut list = Lines::new(Source::new(rt.stdin()), &mut buf);
+    let mut answers = Output::new(Sink::new(rt.stdout()), &mut out);
+    input::run(&mut list, &mut watch, &mut answers);
+    list.end()?;
+    answers.end()
 }

@@ -1,4 +1,3 @@
 -- Laws that the proofs of more than one function cite.
-pub mod Known
 pub mod Passes
 pub mod Words

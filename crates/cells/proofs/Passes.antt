@@ -12,14 +12,9 @@ use borrow.Author.Tests.{lt-ltb, le-ltb, ltb-true, ltb-false}
 use lib.Dec.{ltb}
 use lib.ListN.{length, get_or, take, set, length-append, get_or-append}
 use lib.Seq.{get_or_at, take-suc-set, take_all}
+use Rattle.std.proofs.Math.Bool.{or-true, or-false}
+use Rattle.std.proofs.lemmas.Bool.{cases_lt, or_parts}
 use Rattle.cells.specs.Passes.{pass, sum_of, how_many, some, first, table}
-
--- of two numbers, the one is less or it is not
-pub lt_or_ge : (m n : ℕ) → (m < n) ⊎ (n ≤ m)
-lt_or_ge m n = by (ltb m n) refl where
-  by : (b : Bool) → ltb m n ≡ b → (m < n) ⊎ (n ≤ m)
-  by true e = inl (ltb-true m n e)
-  by false e = inr (ltb-false m n e)
 
 -- ---- passes
 pub pass_next : {S : Type 0} (f : ℕ → S → S) (s : S) (i : ℕ) → pass f s (i + 1) ≡ f i (pass f s i)
@@ -71,17 +66,9 @@ sum_step p f n r k e h =
     ∙ sym (pass_next (λ (i s : ℕ). cond (p i) (s + f i) s) 0 k)
 
 -- ---- some
-or_true : (t : Bool) → (t || true) ≡ true
-or_true true = refl
-or_true false = refl
-
-or_false : (t : Bool) → (t || false) ≡ t
-or_false true = refl
-or_false false = refl
-
 one_more_lem : (b : Bool) (n : ℕ) → ltb 0 (cond b (n + 1) n) ≡ (ltb 0 n || b)
-one_more_lem true n = lt-ltb 0 (n + 1) (omega arith) ∙ sym (or_true (ltb 0 n))
-one_more_lem false n = sym (or_false (ltb 0 n))
+one_more_lem true n = lt-ltb 0 (n + 1) (omega arith) ∙ sym (or-true (ltb 0 n))
+one_more_lem false n = sym (or-false (ltb 0 n))
 
 pub some_next : (p : ℕ → Bool) (n : ℕ) → some p (suc n) ≡ (some p n || p n)
 unfolding pass
@@ -98,19 +85,15 @@ some_same p q n h =
 pub some_none : (p : ℕ → Bool) (n : ℕ) → ((i : ℕ) → i < n → p i ≡ false) → some p n ≡ false
 some_none p n h = ap (ltb 0) (pass_all (λ (i s : ℕ). cond (p i) (s + 1) s) 0 n (λ i l s. ap (λ (b : Bool). cond b (s + 1) s) (h i l)))
 
-neither : (a b : Bool) → (a || b) ≡ false → (a ≡ false) × (b ≡ false)
-neither true b e = absurd (true≢false e)
-neither false b e = (refl, e)
-
 pub some_not : (p : ℕ → Bool) (n : ℕ) → some p n ≡ false → (i : ℕ) → i < n → p i ≡ false
 some_not p zero e i l = absurd (omega arith)
 some_not p (suc n) e i l =
-    let h = neither (some p n) (p n) (sym (some_next p n) ∙ e) in
+    let h = or_parts (some p n) (p n) (sym (some_next p n) ∙ e) in
     ⊎_elim (λ (q : i ≡ n). ap p q ∙ h.1) (λ (lt : i < n). some_not p n h.0 i lt) (eq-or-lt_of_le (le_of_suc-le-suc l))
 
 four : (a b c d : Bool) → ((a || b) || (c || d)) ≡ ((a || c) || (b || d))
 four true b c d = refl
-four false b true d = or_true b ∙ refl
+four false b true d = or-true b ∙ refl
 four false true false d = refl
 four false false false d = refl
 
@@ -157,8 +140,8 @@ first_holds p (suc n) l = step_holds p (first p n) n (first_holds p n) (p (first
 pub first_unique : (p : ℕ → Bool) (n k : ℕ) → k ≤ n → ((j : ℕ) → j < k → p j ≡ false) → (k < n → p k ≡ true) → first p n ≡ k
 first_unique p n k l below here =
     le_antisymm
-    (⊎_elim (λ (lt : k < first p n). absurd (true≢false (sym (here (omega (arith, first_le p n))) ∙ first_least p n k lt))) (λ (ge : first p n ≤ k). ge) (lt_or_ge k (first p n)))
-    (⊎_elim (λ (lt : first p n < k). absurd (true≢false (sym (first_holds p n (omega arith)) ∙ below (first p n) lt))) (λ (ge : k ≤ first p n). ge) (lt_or_ge (first p n) k))
+    (⊎_elim (λ (lt : k < first p n). absurd (true≢false (sym (here (omega (arith, first_le p n))) ∙ first_least p n k lt))) (λ (ge : first p n ≤ k). ge) (cases_lt k (first p n)))
+    (⊎_elim (λ (lt : first p n < k). absurd (true≢false (sym (first_holds p n (omega arith)) ∙ below (first p n) lt))) (λ (ge : k ≤ first p n). ge) (cases_lt (first p n) k))
 
 -- where p, once held, stays, the first is at most d exactly when p holds at d
 pub first_bound : (p : ℕ → Bool) → ((a b : ℕ) → a ≤ b → p a ≡ true → p b ≡ true) → (n d : ℕ) → d < n → ltb (first p n) (suc d) ≡ p d
@@ -166,11 +149,11 @@ first_bound p mono n d l = by (p d) refl where
   by : (b : Bool) → p d ≡ b → ltb (first p n) (suc d) ≡ p d
   by true e =
       lt-ltb (first p n) (suc d)
-      (⊎_elim (λ (lt : d < first p n). absurd (true≢false (sym e ∙ first_least p n d lt))) (λ (ge : first p n ≤ d). omega arith) (lt_or_ge d (first p n)))
+      (⊎_elim (λ (lt : d < first p n). absurd (true≢false (sym e ∙ first_least p n d lt))) (λ (ge : first p n ≤ d). omega arith) (cases_lt d (first p n)))
       ∙ sym e
   by false e =
       le-ltb (first p n) (suc d)
-      (⊎_elim (λ (lt : d < first p n). omega arith) (λ (ge : first p n ≤ d). absurd (true≢false (sym (mono (first p n) d ge (first_holds p n (omega arith))) ∙ e))) (lt_or_ge d (first p n)))
+      (⊎_elim (λ (lt : d < first p n). omega arith) (λ (ge : first p n ≤ d). absurd (true≢false (sym (mono (first p n) d ge (first_holds p n (omega arith))) ∙ e))) (cases_lt d (first p n)))
       ∙ sym e
 
 pub first_same : (p q : ℕ → Bool) (n : ℕ) → ((k : ℕ) → k < n → p k ≡ q k) → first p n ≡ first q n

@@ -118,20 +118,3 @@ both_occupied a b =
     any (a % 256) (b % 256) (bit_or a b % 256)
     (λ h. (omega (arith, and_le_r (a % 256) (b % 256)), omega (arith, and_le_l (a % 256) (b % 256))))
     (λ h k. m ∙ ap (λ (n : ℕ). bit_or n (b % 256)) h ∙ ap (λ (n : ℕ). bit_or 0 n) k)
-
--- ---- what the functions answer, by what their callees do
-pub cell_added : (k : Cell) (low bit n l : ℕ) → n ≡ min 255 (k.count + 1) → l ≡ min k.low low → ◌≡◌ {A = Cell} (record { count = n; low = l; aircraft = bit_or k.aircraft bit }) (added k low bit)
-unfolding added
-cell_added k low bit n l p q = cc
-
-pub cell_merged : (a b : Cell) (n l : ℕ) → n ≡ min 255 (a.count + b.count) → l ≡ min a.low b.low → ◌≡◌ {A = Cell} (record { count = n; low = l; aircraft = bit_or a.aircraft b.aircraft }) (merge a b)
-unfolding merge
-cell_merged a b n l p q = cc
-
-pub added_as : {k a : Cell} {r : ℕ} (w low bit : ℕ) → r ≡ packed a → a ≡ added k low bit → k ≡ unpacked w → r ≡ added_word w low bit
-unfolding added_word
-added_as w low bit p q s = cc
-
-pub merged_as : {k m c : Cell} {r : ℕ} (a b : ℕ) → r ≡ packed c → c ≡ merge k m → k ≡ unpacked a → m ≡ unpacked b → r ≡ merged_word a b
-unfolding merged_word
-merged_as a b p q s t = cc

@@ -1,13 +1,10 @@
 -- A cell (01, "Cells"; merging and occupied: 01, "A judging"). Definitions only. A word is a packed cell: any 32-bit number.
 -- Other crates open none of these: they use the laws of proofs/Words.antt.
+use Rattle.std.specs.Prelude.{Some, None, Option, Float}
 use Rattle.std.specs.Prelude.{ℕ, ◌+◌, ◌*◌, ◌/◌, ◌%◌, ◌^◌, min, Bool, cond, ltb, eqb, ℤ, pos, negsuc}
 use Rattle.std.specs.Int.Bits.{bit_or}
 use Rattle.floats.specs.Horizon.{ceiling_of}
 use Rattle.cells.specs.declared.Cell.{Cell}
-use Rattle.cells.specs.declared.Ceiling.{Ceiling}
-use Rattle.cells.specs.declared.Ceiling.TheVariants.{Metres, NoAltitude}
-use Rattle.cells.specs.declared.Height.{Height}
-use Rattle.cells.specs.declared.Height.TheVariants.{Known, Unknown}
 
 -- 01: A cell is 32 bits: count + 256 × low + 65,536 × aircraft bits
 unfoldable pub packed : Cell → ℕ
@@ -42,9 +39,9 @@ not_below_zero (pos n) = n
 not_below_zero (negsuc n) = 0
 
 -- 01: none 255, else min(254, max(feet, 0) div 500)
-abbrev pub bucket_of : Height → ℕ
-bucket_of (Known feet) = min 254 (not_below_zero feet / 500)
-bucket_of Unknown = 255
+abbrev pub bucket_of : Option ℤ → ℕ
+bucket_of (Some feet) = min 254 (not_below_zero feet / 500)
+bucket_of None = 255
 
 -- 01: Aircraft bit: (address × 0x9E3779B1 mod 2^32) div 2^28
 abbrev pub bit_number : ℕ → ℕ
@@ -65,5 +62,5 @@ abbrev pub occupied_word : ℕ → Bool
 occupied_word w = ltb 0 (count_of w)
 
 -- 01, A judging, 2: b = ((low + 1) × 500) × 0.3048, where a cell has altitude: low 255 is none
-unfoldable pub ceiling : ℕ → Ceiling
-ceiling low = cond (eqb low 255) NoAltitude (Metres (ceiling_of low))
+unfoldable pub ceiling : ℕ → Option Float
+ceiling low = cond (eqb low 255) None (Some (ceiling_of low))

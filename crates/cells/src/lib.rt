@@ -1,43 +1,17 @@
 // A cell of the siting watch: how many positions fell in it, the lowest altitude bucket, which aircraft. No other crate
 // knows how a cell is packed into a word.
-#![tactic(auto)]
+#![tactic(auto, unfolding(crate::specs::Cells::packed, crate::specs::Cells::count_of, crate::specs::Cells::low_of, crate::specs::Cells::bits_of, crate::specs::Cells::empty_word, crate::specs::Cells::added, crate::specs::Cells::added_word, crate::specs::Cells::merge, crate::specs::Cells::merged_word, crate::specs::Cells::aircraft_bit, crate::specs::Cells::ceiling))]
 
-ghost use Rattle.std.specs.Prelude.{◌≡◌, min, ◌+◌, ◌<◌, ◌^◌, ltb};
-ghost use Rattle.cells.specs.Cells.{count_of, low_of, bits_of, occupied_word, unpacked, packed, empty_word, added, added_word, merge, merged_word, not_below_zero, bucket_of, aircraft_bit, ceiling};
+ghost use Rattle.std.specs.Prelude.{◌≡◌, ltb};
+ghost use Rattle.cells.specs.Cells.{count_of, low_of, bits_of, occupied_word, unpacked, packed, empty_word, added, added_word, merge, merged_word, bucket_of, aircraft_bit, ceiling};
 
-// Feet, if they were said.
-#[derive(Clone, Copy)]
-pub enum Height {
-    Known(i32),
-    Unknown,
-}
+use floats::horizon;
 
 #[derive(Clone, Copy)]
 pub struct Cell {
     pub count: u8,
     pub low: u8,
     pub aircraft: u16,
-}
-
-// The highest altitude, metres, that a cell's lowest bucket allows.
-#[derive(Clone, Copy)]
-pub enum Ceiling {
-    Metres(f64),
-    NoAltitude,
-}
-
-fn least(a: u8, b: u8) -> u8
-    ensures { result ≡ min a b }
-{
-    if b < a { b } else { a }
-}
-
-// a + b, stopped at 255.
-fn stopped_sum(a: u8, b: u8) -> u8
-    ensures { result ≡ min 255 (a + b) }
-{
-    let s = (a as u32) + (b as u32);
-    if s < 255 { s as u8 } else { 255 }
 }
 
 impl Cell {
@@ -53,13 +27,14 @@ impl Cell {
         Cell::EMPTY
     }
 
+    // No `From<u32>`, nor its way back: a word is a packed cell, and the names say so.
     pub fn unpack(w: u32) -> Cell
         ensures { result ≡ unpacked w }
     {
         Cell {
-            count: (w % 256) as u8,
-            low: (w / 256 % 256) as u8,
-            aircraft: (w / 65536 % 65536) as u16,
+            count: count_of(w) as u8,
+            low: low_of(w) as u8,
+            aircraft: bits_of(w) as u16,
         }
     }
 
@@ -73,19 +48,19 @@ impl Cell {
     pub fn add(self, low: u8, aircraft: u16) -> Cell
         ensures { result ≡ added self low aircraft }
     {
-        Cell {
-            count: stopped_sum(self.count, 1),
-            low: least(self.low, low),
-            aircraft: self.aircraft | aircraft,
-        }
+        self.merged(Cell {
+            count: 1,
+            low,
+            aircraft,
+        })
     }
 
     pub fn merged(self, other: Cell) -> Cell
         ensures { result ≡ merge self other }
     {
         Cell {
-            count: stopped_sum(self.count, other.count),
-            low: least(self.low, other.low),
+            count: self.count.saturating_add(other.count),
+            low: self.low.min(other.low),
             aircraft: self.aircraft | other.aircraft,
         }
     }
@@ -96,14 +71,13 @@ impl Cell {
         self.count > 0
     }
 
-    pub fn ceiling_m(self) -> Ceiling
+    pub fn ceiling_m(self) -> Option<f64>
         ensures { result ≡ ceiling self.low }
     {
-        let low = self.low;
-        if low == 255 {
-            return Ceiling::NoAltitude;
+        if self.low == 255 {
+            return None;
         }
-        Ceiling::Metres(floats::horizon::ceiling_m(low))
+        Some(horizon::ceiling_m(self.low))
     }
 }
 
@@ -138,7 +112,7 @@ pub fn bits_of(w: u32) -> u32
 pub fn occupied(w: u32) -> bool
     ensures { result ≡ occupied_word w }
 {
-    w % 256 > 0
+    count_of(w) > 0
 }
 
 // One position more in a packed cell.
@@ -155,23 +129,13 @@ pub fn merged_word(a: u32, b: u32) -> u32
     Cell::unpack(a).merged(Cell::unpack(b)).pack()
 }
 
-// max(x, 0).
-fn not_below_zero(x: i32) -> u32
-    ensures { (result ≡ not_below_zero x) × (result < 2 ^ 31) }
-{
-    if x < 0 { 0 } else { x as u32 }
-}
-
 // The altitude bucket of `feet`: steps of 500, the last one for all above, and one more for none.
-pub fn bucket(feet: Height) -> u8
+pub fn bucket(feet: Option<i32>) -> u8
     ensures { result ≡ bucket_of feet }
 {
     match feet {
-        Height::Known(f) => {
-            let n = not_below_zero(f) / 500;
-            if n < 254 { n as u8 } else { 254 }
-        }
-        Height::Unknown => 255,
+        Some(f) => (f.max(0) / 500).min(254) as u8,
+        None => 255,
     }
 }
 
@@ -179,6 +143,5 @@ pub fn bucket(feet: Height) -> u8
 pub fn aircraft_bit(address: u32) -> u16
     ensures { result ≡ aircraft_bit address }
 {
-    let n = ((address as u64) * 2654435761 % 4294967296 / 268435456) as u32;
-    1u16 << n
+    1u16 << (address.wrapping_mul(0x9E3779B1) >> 28)
 }

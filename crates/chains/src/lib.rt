@@ -1,106 +1,325 @@
-// The order of use over rows lent as plain numbers: the steps of crate `rows` on the chains, and questions 1 to 3, with each row read and stored by crates
-// `flat` and `glances`; what crate `records` has over a slice of records.
+// The order of use over lent rows: the steps of crate `rows` on the chains, and questions 1 to 3, once for whatever the rows are lent as. That is records (01, "the
+// rows are lent as a slice of records"), or the plain numbers of crate `flat`. `Lent` says what a lent slice has to offer, and what its rows are.
 #![tactic(auto)]
 
-ghost use Rattle.std.specs.Prelude.{◌≡◌, ◌≤◌, length, get_or};
+ghost use Rattle.std.specs.Prelude.{◌≡◌, ℕ, ◌≤◌, ◌<◌, List, leb, length, set, get_or, refl};
+ghost use Rattle.table.specs.Machine.{Answer};
+ghost use Rattle.receiver.specs.Calls.{Out};
 ghost use Rattle.rows.specs.Read.{Looked};
-ghost use Rattle.rows.specs.Links.{blank, unlinked_rows, unlinked_ends, linked_rows, released_rows, released_ends, touched_rows, touched_ends, marked_rows, marked_ends, room_rows, room_ends, taken_rows, taken_ends, entered_rows, entered_ends, seat_of, seated_rows, fresh_from};
+ghost use Rattle.rows.specs.Links.{blank, with_links, nexted, preved, parted_rows, unlinked_rows, unlinked_ends, linked_rows, released_rows, released_ends, touched_rows, touched_ends, marked_rows, marked_ends, room_rows, room_ends, taken_rows, taken_ends, entered_rows, entered_ends, seat_of, seated_rows, fresh_from};
+ghost use Rattle.rows.specs.declared.Row.{Row};
 ghost use Rattle.scans.specs.Ends.{linked_ends};
 ghost use Rattle.rows.specs.Search.{step_of, scanned};
 ghost use Rattle.scans.specs.Scan.{at_of};
-ghost use Rattle.flat.specs.Table.{rows_of};
-ghost use Rattle.glances.specs.Glances.{glance_of};
+ghost use Rattle.flat.specs.Table.{rows_of, Left};
+ghost use Rattle.glances.specs.Glances.{links_of, glance_of};
 ghost use Rattle.packing.specs.Words.{key_of};
+ghost use Rattle.chains.specs.Lent.{LeftLaws, LeftRows, same_rows, rows_left, words_left, few_numbers};
 
-use glances::Glance;
+use glances::{Glance, Links};
 use receiver::Part;
 use rows::{Row, Seat};
 use scans::{Cursor, Ends, Key, Look};
 
+// ---- what rows are lent as
+
+// A key that is sought: its bytes, and the four words of them.
+#[derive(Clone, Copy)]
+pub struct Sought {
+    pub bytes: [u8; 32],
+    pub words: [u64; 4],
+    ghost same: { key_of words ≡ bytes },
+}
+
+impl Sought {
+    fn of(key: Key) -> Sought
+        ensures { result.bytes ≡ key.bytes }
+    {
+        let bytes = key.bytes;
+        let words = glances::words_of(bytes);
+        Sought {
+            bytes: bytes,
+            words: words,
+        }
+    }
+}
+
+// The element of a lent slice. A link that is no row's number reads as the unmade row, and a store there changes nothing.
+pub trait Lent: Copy {
+    // the rows of a slice
+    ghost rows_in: { List Self → List Row };
+
+    // how many rows can be made, one after another
+    ghost can_make: { ℕ → Type 0 };
+
+    // what a call leaves, by its answer
+    ghost left: { Answer Out → List Self → List Self → Type 0 };
+
+    fn count(rows: &[Self]) -> usize
+        ensures { result ≡ length (rows_in rows.now) };
+
+    // Is this no row's number?
+    fn outside(rows: &[Self], at: u32) -> bool
+        ensures { result ≡ leb (length (rows_in rows.now)) at };
+
+    fn get(rows: &[Self], at: u32) -> Row
+        ensures { result ≡ get_or (rows_in rows.now) at blank };
+
+    fn put(rows: &mut [Self], at: u32, row: Row)
+        ensures { rows_in rows.new ≡ set (rows_in rows.old) at row };
+
+    fn make(rows: &mut [Self], i: usize, row: Row)
+        requires { can_make (length (rows_in rows.old)) × (i < length (rows_in rows.old)) }
+        ensures { rows_in rows.new ≡ set (rows_in rows.old) i row };
+
+    fn links_at(rows: &[Self], at: u32) -> Links
+        ensures { result ≡ links_of (get_or (rows_in rows.now) at blank) };
+
+    fn set_links(rows: &mut [Self], at: u32, p: u32, n: u32)
+        ensures { rows_in rows.new ≡ set (rows_in rows.old) at (with_links (get_or (rows_in rows.old) at blank) p n) };
+
+    fn set_next(rows: &mut [Self], at: u32, n: u32)
+        ensures { rows_in rows.new ≡ nexted (rows_in rows.old) at n };
+
+    fn set_prev(rows: &mut [Self], at: u32, n: u32)
+        ensures { rows_in rows.new ≡ preved (rows_in rows.old) at n };
+
+    fn set_part(rows: &mut [Self], at: u32, part: Part)
+        ensures { rows_in rows.new ≡ parted_rows (rows_in rows.old) at part };
+
+    // What a step along a chain asks of a row.
+    fn look_at(rows: &[Self], at: u32, key: &Sought) -> Glance
+        requires { at < length (rows_in rows.now) }
+        ensures { result ≡ glance_of key.now.bytes (get_or (rows_in rows.now) at blank) };
+
+    ghost makes: { (n : ℕ) → n ≤ 4096 → can_make n };
+
+    ghost leaves: { LeftLaws rows_in left };
+}
+
+impl Lent for Row {
+    ghost rows_in = { same_rows };
+
+    ghost can_make = { λ n. n ≡ n };
+
+    ghost left = { LeftRows };
+
+    fn count(rows: &[Row]) -> usize {
+        rows.len()
+    }
+
+    fn outside(rows: &[Row], at: u32) -> bool {
+        rows.len() <= at as usize
+    }
+
+    fn get(rows: &[Row], at: u32) -> Row {
+        let i = at as usize;
+        if i < rows.len() {
+            rows[i]
+        } else {
+            rows::unmade()
+        }
+    }
+
+    fn put(rows: &mut [Row], at: u32, row: Row) {
+        let i = at as usize;
+        if i < rows.len() {
+            rows[i] = row;
+        }
+    }
+
+    fn make(rows: &mut [Row], i: usize, row: Row) {
+        rows[i] = row;
+    }
+
+    fn links_at(rows: &[Row], at: u32) -> Links {
+        let row = Row::get(rows, at);
+        Links {
+            prev: row.prev,
+            next: row.next,
+        }
+    }
+
+    fn set_links(rows: &mut [Row], at: u32, p: u32, n: u32) {
+        let row = Row::get(rows, at);
+        Row::put(rows, at, rows::with_links(row, p, n));
+    }
+
+    fn set_next(rows: &mut [Row], at: u32, n: u32) {
+        let row = Row::get(rows, at);
+        Row::put(rows, at, rows::with_next(row, n));
+    }
+
+    fn set_prev(rows: &mut [Row], at: u32, n: u32) {
+        let row = Row::get(rows, at);
+        Row::put(rows, at, rows::with_prev(row, n));
+    }
+
+    fn set_part(rows: &mut [Row], at: u32, part: Part) {
+        let row = Row::get(rows, at);
+        Row::put(rows, at, rows::with_part(row, part));
+    }
+
+    fn look_at(rows: &[Row], at: u32, key: &Sought) -> Glance {
+        let r = rows[at as usize];
+        Glance {
+            prev: r.prev,
+            next: r.next,
+            sound: rows::part_fits(r.part),
+            same: scans::same_key(key.bytes, r.key),
+        }
+    }
+
+    ghost makes = { λ n few. refl };
+
+    ghost leaves = { rows_left };
+}
+
+impl Lent for u64 {
+    ghost rows_in = { rows_of };
+
+    ghost can_make = { λ n. n ≤ 4294967296 };
+
+    ghost left = { Left };
+
+    fn count(rows: &[u64]) -> usize {
+        flat::count(rows)
+    }
+
+    fn outside(rows: &[u64], at: u32) -> bool {
+        flat::outside(rows, at)
+    }
+
+    fn get(rows: &[u64], at: u32) -> Row {
+        flat::get(rows, at)
+    }
+
+    fn put(rows: &mut [u64], at: u32, row: Row) {
+        flat::put(rows, at, row);
+    }
+
+    fn make(rows: &mut [u64], i: usize, row: Row) {
+        flat::put(rows, i as u32, row);
+    }
+
+    fn links_at(rows: &[u64], at: u32) -> Links {
+        glances::links_at(rows, at)
+    }
+
+    fn set_links(rows: &mut [u64], at: u32, p: u32, n: u32) {
+        glances::set_links(rows, at, p, n);
+    }
+
+    fn set_next(rows: &mut [u64], at: u32, n: u32) {
+        glances::set_next(rows, at, n);
+    }
+
+    fn set_prev(rows: &mut [u64], at: u32, n: u32) {
+        glances::set_prev(rows, at, n);
+    }
+
+    fn set_part(rows: &mut [u64], at: u32, part: Part) {
+        glances::set_part(rows, at, part);
+    }
+
+    fn look_at(rows: &[u64], at: u32, key: &Sought) -> Glance {
+        glances::look_at(rows, at, &key.words)
+    }
+
+    ghost makes = { few_numbers };
+
+    ghost leaves = { words_left };
+}
+
 // ---- steps on the chains
 
 // Takes row i out of the used chain, leaving its part.
-fn unlink(rows: &mut [u64], e: Ends, i: u32) -> Ends
-    ensures { (result ≡ unlinked_ends (rows_of rows.old) e i) × (rows_of rows.new ≡ unlinked_rows (rows_of rows.old) i) }
+fn unlink<W: Lent>(rows: &mut [W], e: Ends, i: u32) -> Ends
+    ensures { (result ≡ unlinked_ends (W.rows_in rows.old) e i) × (W.rows_in rows.new ≡ unlinked_rows (W.rows_in rows.old) i) }
 {
-    let l = glances::links_at(rows, i);
-    glances::set_next(rows, l.prev, l.next);
-    glances::set_prev(rows, l.next, l.prev);
+    let l = W::links_at(rows, i);
+    W::set_next(rows, l.prev, l.next);
+    W::set_prev(rows, l.next, l.prev);
     scans::out_ends(e, l.prev, l.next)
 }
 
 // Puts row i last in the used chain: the most recently used.
-fn link_last(rows: &mut [u64], e: Ends, i: u32) -> Ends
-    ensures { (result ≡ linked_ends e i) × (rows_of rows.new ≡ linked_rows (rows_of rows.old) e i) }
+fn link_last<W: Lent>(rows: &mut [W], e: Ends, i: u32) -> Ends
+    ensures { (result ≡ linked_ends e i) × (W.rows_in rows.new ≡ linked_rows (W.rows_in rows.old) e i) }
 {
     let t = scans::tail_of(e);
-    glances::set_links(rows, i, t, scans::no_row());
-    glances::set_next(rows, t, i);
+    W::set_links(rows, i, t, scans::no_row());
+    W::set_next(rows, t, i);
     scans::linked_ends(e, i)
 }
 
 // Takes row i out of the used chain and frees it: it becomes as fresh, and heads the free chain.
-pub fn release(rows: &mut [u64], e: Ends, i: u32) -> Ends
-    ensures { (result ≡ released_ends (rows_of rows.old) e i) × (rows_of rows.new ≡ released_rows (rows_of rows.old) e i) }
+pub fn release<W: Lent>(rows: &mut [W], e: Ends, i: u32) -> Ends
+    ensures { (result ≡ released_ends (W.rows_in rows.old) e i) × (W.rows_in rows.new ≡ released_rows (W.rows_in rows.old) e i) }
 {
     let d = unlink(rows, e, i);
-    flat::put(rows, i, rows::unmade_row(scans::free_of(e)));
+    W::put(rows, i, rows::unmade_row(scans::free_of(e)));
     scans::with_free(d, i)
 }
 
 // Marks row i: it is freed after every row marked longer ago.
-fn touch(rows: &mut [u64], e: Ends, i: u32) -> Ends
-    ensures { (result ≡ touched_ends (rows_of rows.old) e i) × (rows_of rows.new ≡ touched_rows (rows_of rows.old) e i) }
+fn touch<W: Lent>(rows: &mut [W], e: Ends, i: u32) -> Ends
+    ensures { (result ≡ touched_ends (W.rows_in rows.old) e i) × (W.rows_in rows.new ≡ touched_rows (W.rows_in rows.old) e i) }
 {
     let d = unlink(rows, e, i);
     link_last(rows, d, i)
 }
 
 // Row i gets a part, and is marked.
-pub fn mark(rows: &mut [u64], e: Ends, i: u32, part: Part) -> Ends
-    ensures { (result ≡ marked_ends (rows_of rows.old) e i part) × (rows_of rows.new ≡ marked_rows (rows_of rows.old) e i part) }
+pub fn mark<W: Lent>(rows: &mut [W], e: Ends, i: u32, part: Part) -> Ends
+    ensures { (result ≡ marked_ends (W.rows_in rows.old) e i part) × (W.rows_in rows.new ≡ marked_rows (W.rows_in rows.old) e i part) }
 {
-    glances::set_part(rows, i, part);
+    W::set_part(rows, i, part);
     touch(rows, e, i)
 }
 
 // With no row free, frees the least recently used.
-fn make_room(rows: &mut [u64], e: Ends) -> Ends
-    ensures { (result ≡ room_ends (rows_of rows.old) e) × (rows_of rows.new ≡ room_rows (rows_of rows.old) e) }
+fn make_room<W: Lent>(rows: &mut [W], e: Ends) -> Ends
+    ensures { (result ≡ room_ends (W.rows_in rows.old) e) × (W.rows_in rows.new ≡ room_rows (W.rows_in rows.old) e) }
 {
-    let spare = scans::has_free(e);
-    if spare {
-        return scans::same_ends(e);
+    if scans::has_free(e) {
+        return e;
     }
     release(rows, e, scans::head_of(e))
 }
 
 // The first free row is taken for the key, and is the most recently used.
-fn take_free(rows: &mut [u64], e: Ends, key: Key, part: Part) -> Ends
-    ensures { (result ≡ taken_ends (rows_of rows.old) e) × (rows_of rows.new ≡ taken_rows (rows_of rows.old) e key part) }
+fn take_free<W: Lent>(rows: &mut [W], e: Ends, key: Key, part: Part) -> Ends
+    ensures { (result ≡ taken_ends (W.rows_in rows.old) e) × (W.rows_in rows.new ≡ taken_rows (W.rows_in rows.old) e key part) }
 {
     let i = scans::free_of(e);
-    let old = flat::get(rows, i);
-    flat::put(rows, i, rows::made_row(old, key, part));
+    let old = W::get(rows, i);
+    W::put(rows, i, rows::made_row(old, key, part));
     let n = rows::next_of(old);
     link_last(rows, scans::with_free(e, n), i)
 }
 
 // A row is made for the key, where no row is free in place of the least recently used.
-fn enter(rows: &mut [u64], e: Ends, key: Key, part: Part) -> Ends
-    ensures { (result ≡ entered_ends (rows_of rows.old) e) × (rows_of rows.new ≡ entered_rows (rows_of rows.old) e key part) }
+fn enter<W: Lent>(rows: &mut [W], e: Ends, key: Key, part: Part) -> Ends
+    ensures { (result ≡ entered_ends (W.rows_in rows.old) e) × (W.rows_in rows.new ≡ entered_rows (W.rows_in rows.old) e key part) }
 {
     let d = make_room(rows, e);
     take_free(rows, d, key, part)
 }
 
-// Writes the key's part and marks its row, in one step: the row that was found, or one that is made.
-pub fn insert_active(rows: &mut [u64], e: Ends, l: Look, key: Key, part: Part) -> Seat
-    ensures { (result ≡ seat_of (rows_of rows.old) e l part) × (rows_of rows.new ≡ seated_rows (rows_of rows.old) e l key part) }
+// The least recently used row.
+pub fn oldest<W: Lent>(rows: &[W], e: Ends) -> Row
+    ensures { result ≡ get_or (W.rows_in rows.now) e.head blank }
 {
-    let new = scans::is_no(l);
-    if new {
-        let old = flat::get(rows, scans::head_of(e));
+    W::get(rows, scans::head_of(e))
+}
+
+// Writes the key's part and marks its row, in one step: the row that was found, or one that is made.
+pub fn insert_active<W: Lent>(rows: &mut [W], e: Ends, l: Look, key: Key, part: Part) -> Seat
+    ensures { (result ≡ seat_of (W.rows_in rows.old) e l part) × (W.rows_in rows.new ≡ seated_rows (W.rows_in rows.old) e l key part) }
+{
+    if scans::is_no(l) {
+        let old = oldest(rows, e);
         let d = enter(rows, e, key, part);
         return rows::made_seat(e, old, d);
     }
@@ -110,12 +329,6 @@ pub fn insert_active(rows: &mut [u64], e: Ends, l: Look, key: Key, part: Part) -
 }
 
 // ---- questions 1 to 3
-
-fn place(s: Cursor) -> u32
-    ensures { result ≡ s.at }
-{
-    s.at
-}
 
 // A step along a chain, by what was seen of the row.
 fn step_by(s: Cursor, g: Glance) -> Cursor
@@ -142,53 +355,47 @@ fn step_by(s: Cursor, g: Glance) -> Cursor
     }
 }
 
-// The scan for the key of these four words.
-fn scan(rows: &[u64], n: usize, s: Cursor, key: &[u64; 4]) -> Cursor
-    requires { (n ≡ length (rows_of rows.now)) × (s.key ≡ key_of key.now) }
-    ensures { result ≡ scanned (rows_of rows.now) s }
+fn scan<W: Lent>(rows: &[W], n: usize, s: Cursor, key: &Sought) -> Cursor
+    requires { (n ≡ length (W.rows_in rows.now)) × (s.key ≡ key.now.bytes) }
+    ensures { result ≡ scanned (W.rows_in rows.now) s }
 {
     let mut c = s;
     while scans::more(c, n) {
-        let g = glances::look_at(rows, place(c), key);
+        let g = W::look_at(rows, c.at, key);
         c = step_by(c, g);
     }
     c
 }
 
 // Questions 1 and 2 of the rows with m cells, and the row with the key. Each row is read once.
-pub fn look_up(rows: &[u64], m: usize, e: Ends, key: Key) -> Look
-    ensures { Looked (rows_of rows.now) m e key result }
+pub fn look_up<W: Lent>(rows: &[W], m: usize, e: Ends, key: Key) -> Look
+    ensures { Looked (W.rows_in rows.now) m e key result }
 {
-    let n = flat::count(rows);
-    let fit = rows::sizes_fit(n, m);
-    let bad = scans::negated(fit);
-    if bad {
+    let n = W::count(rows);
+    if !rows::sizes_fit(n, m) {
         return scans::no_one();
     }
-    let bytes = key.bytes;
-    let k = glances::words_of(bytes);
+    let k = Sought::of(key);
     let used = scan(rows, n, scans::used_start(n, e, key), &k);
     let free = scan(rows, n, scans::free_start(n, e, key), &k);
     scans::look_of(n, e, used, free)
 }
 
 // The row that was found; the unmade one where none was.
-pub fn found(rows: &[u64], l: Look) -> Row
-    ensures { result ≡ get_or (rows_of rows.now) (at_of l) blank }
+pub fn found<W: Lent>(rows: &[W], l: Look) -> Row
+    ensures { result ≡ get_or (W.rows_in rows.now) (at_of l) blank }
 {
-    flat::get(rows, scans::at_of(l))
+    W::get(rows, scans::at_of(l))
 }
 
-// ---- fresh
+// ---- fresh rows
 
-// Every row becomes fresh, in the free chain in ascending number.
-pub fn fresh_rows(rows: &mut [u64], n: usize)
-    requires { (n ≡ length (rows_of rows.old)) × (n ≤ 4096) }
-    ensures { rows_of rows.new ≡ fresh_from n 0 n }
+// Every row becomes fresh, row i of n, in the free chain in ascending number.
+pub fn fresh_rows<W: Lent>(rows: &mut [W], n: usize)
+    requires { W.can_make (length (W.rows_in rows.old)) }
+    ensures { W.rows_in rows.new ≡ fresh_from n 0 (length (W.rows_in rows.old)) }
 {
-    let mut i: u32 = 0;
-    while (i as usize) < n {
-        flat::put(rows, i, rows::fresh_row(n, i as usize));
-        i = i + 1;
+    for i in 0..W::count(rows) {
+        W::make(rows, i, rows::fresh_row(n, i));
     }
 }

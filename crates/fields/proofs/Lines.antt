@@ -1,37 +1,25 @@
 -- One turn of a loop over the bytes of a slice: what each definition says of the bytes from i on, by the byte at i and those from i + 1 on.
+use Rattle.std.specs.Prelude.{Some, None, Option, MatchOption}
+use Rattle.std.specs.Option.{unwrap_or}
+use Rattle.std.specs.Char.{is_ascii_graphic}
+use Rattle.std.specs.List.{position, position_or_len}
 use mathlib.Core.Path.{◌≡◌, refl, sym, ap, ◌∙◌}
-use mathlib.Core.Bool.{Bool, true, false, ◌&&◌, cond}
-use mathlib.Core.List.{List, [], ◌∷◌, ◌++◌}
+use mathlib.Core.Bool.{Bool, true, false, ◌&&◌, cond, not, and-false}
+use mathlib.Core.Logic.{◌⊎◌, inl, inr}
+use mathlib.Core.List.{List, [], ◌∷◌}
 use Prim.Native.Nat.{ℕ, zero, suc, ◌+◌, ◌-◌, ◌≤◌, ◌<◌}
-use native.Mathlib.Numerals.{add-one}
+use native.Mathlib.Numerals.{one-add}
 use native.Mathlib.Omega.{arith}
-use borrow.Author.Tests.{eq-eqb, ne_eqb, le-leb, lt-leb, lt-ltb, le-ltb}
-use lib.Dec.{eqb}
-use lib.ListN.{length, get_or, take, drop, set, drop_of_length-le, length-drop}
-use lib.Seq.{drop-cons, take_all, take-suc, get_or-drop, get_or-append-add, set_at, append_snoc, length-take-le, length_front}
-use Rattle.fields.specs.Text.{first_of, back_over, text_end, same_bytes, printable, moved_to}
-
--- the byte at i, and the rest
-pub walk : (s : List ℕ) (i : ℕ) → i < length s → drop i s ≡ get_or s i 0 ∷ drop (i + 1) s
-walk s i h = rw (add-one, drop-cons s i 0)
-
--- the end
-pub walked : (s : List ℕ) (i : ℕ) → length s ≤ i → drop i s ≡ []
-walked s i h = drop_of_length-le s h
+use borrow.Author.Tests.{eq-eqb, ne_eqb, le-leb, lt-leb, lt-ltb, le-ltb, ltb-false}
+use lib.Dec.{eqb, ltb, leb}
+use lib.Pointwise.{pointwise}
+use denote.Bor.{Bor}
+use Rattle.std.proofs.lemmas.List.{drop_more}
+use lib.ListN.{length, get_or, take, drop, drop_of_length-le, length-drop}
+use lib.Seq.{take_all, length-take-le, length_front}
+use Rattle.fields.specs.Text.{first_of, back_over, text_end, part_of, same_bytes, printable, moved_to}
 
 -- ---- find
-pub find_here : (c : ℕ) (s : List ℕ) (i : ℕ) → i < length s → get_or s i 0 ≡ c → first_of c (drop i s) ≡ 0
-unfolding first_of
-find_here c s i h e = rw (walk s i h) (rw (eq-eqb _ c e))
-
-pub find_on : (c : ℕ) (s : List ℕ) (i : ℕ) → i < length s → (get_or s i 0 ≡ c → ⊥) → first_of c (drop i s) ≡ suc (first_of c (drop (i + 1) s))
-unfolding first_of
-find_on c s i h n = rw (walk s i h) (rw (ne_eqb _ c n))
-
-pub find_none : (c : ℕ) (s : List ℕ) (i : ℕ) → length s ≤ i → first_of c (drop i s) ≡ 0
-unfolding first_of
-find_none c s i h = rw (walked s i h)
-
 pub find_le : (c : ℕ) (s : List ℕ) → first_of c s ≤ length s
 unfolding first_of
 find_le c [] = omega arith
@@ -39,6 +27,21 @@ find_le c (x ∷ s) = by (eqb x c) (find_le c s) where
   by : (b : Bool) → first_of c s ≤ length s → cond b 0 (suc (first_of c s)) ≤ suc (length s)
   by true h = omega arith
   by false h = omega arith
+
+-- the library's count of the bytes before the first that is c
+pub first_is : (c : ℕ) (s : List ℕ) → position_or_len (λ x. eqb x c) s ≡ first_of c s
+unfolding first_of
+first_is c [] = refl
+first_is c (x ∷ s) = by (eqb x c) (first_is c s) where
+  by : (b : Bool) → position_or_len (λ y. eqb y c) s ≡ first_of c s → cond (not b) (1 + position_or_len (λ y. eqb y c) s) 0 ≡ cond b 0 (suc (first_of c s))
+  by true e = refl
+  by false e = one-add (position_or_len (λ y. eqb y c) s) ∙ ap suc e
+
+pub find_is : (c : ℕ) (s : List ℕ) (r : Option ℕ) (n : ℕ) → n ≡ unwrap_or r (length s) → r ≡ position (λ x. eqb x c) s → n ≡ first_of c s
+find_is c s r n f e = f ∙ ap (λ (o : Option ℕ). unwrap_or o (length s)) e ∙ by (position_or_len (λ x. eqb x c) s) (first_is c s) (ltb (position_or_len (λ x. eqb x c) s) (length s)) refl where
+  by : (n : ℕ) → n ≡ first_of c s → (b : Bool) → ltb n (length s) ≡ b → unwrap_or (cond b (Some n) None) (length s) ≡ first_of c s
+  by n q true h = q
+  by n q false h = let p : length s ≤ n = ltb-false n (length s) h in omega (arith, find_le c s)
 
 -- ---- back over spaces
 pub back_space : (s : List ℕ) (n m : ℕ) → n ≡ suc m → get_or s m 0 ≡ 32 → back_over s n ≡ back_over s m
@@ -64,81 +67,42 @@ unfolding text_end
 text_whole line hash e h = rw (← e) (rw (le-ltb hash (length line) h))
 
 -- ---- the same bytes
-pub false_right : (b : Bool) → (b && false) ≡ false
-false_right true = refl
-false_right false = refl
-
-pub same_length : (s w : List ℕ) → (length s ≡ length w → ⊥) → same_bytes s w ≡ false
+-- the library's comparison of slices
+pub same_is : (s w : List ℕ) → pointwise eqb s w ≡ same_bytes s w
 unfolding same_bytes
-same_length [] [] n = absurd (n refl)
-same_length [] (y ∷ w) n = refl
-same_length (x ∷ s) [] n = refl
-same_length (x ∷ s) (y ∷ w) n = rw (same_length s w (λ e. n (ap suc e))) (false_right (eqb x y))
-
-pub same_on : (s w : List ℕ) (i : ℕ) → i < length s → i < length w → get_or s i 0 ≡ get_or w i 0
-    → same_bytes (drop i s) (drop i w) ≡ same_bytes (drop (i + 1) s) (drop (i + 1) w)
-unfolding same_bytes
-same_on s w i h k e = rw (walk s i h, walk w i k) (rw (eq-eqb _ _ e))
-
-pub same_not : (s w : List ℕ) (i : ℕ) → i < length s → i < length w → (get_or s i 0 ≡ get_or w i 0 → ⊥)
-    → same_bytes (drop i s) (drop i w) ≡ false
-unfolding same_bytes
-same_not s w i h k e = rw (walk s i h, walk w i k) (rw (ne_eqb _ _ e))
-
-pub same_end : (s w : List ℕ) (i : ℕ) → length s ≤ i → length w ≤ i → same_bytes (drop i s) (drop i w) ≡ true
-unfolding same_bytes
-same_end s w i h k = rw (walked s i h, walked w i k)
+same_is [] [] = refl
+same_is [] (y ∷ w) = refl
+same_is (x ∷ s) [] = refl
+same_is (x ∷ s) (y ∷ w) = ap (λ (b : Bool). eqb x y && b) (same_is s w)
 
 -- ---- printable bytes
-pub shown_on : (s : List ℕ) (i : ℕ) → i < length s → 33 ≤ get_or s i 0 → get_or s i 0 ≤ 126 → printable (drop i s) ≡ suc (printable (drop (i + 1) s))
+pub shown_on : (s : List ℕ) (i : ℕ) → i < length s → is_ascii_graphic (get_or s i 0) ≡ true → printable (drop i s) ≡ suc (printable (drop (i + 1) s))
 unfolding printable
-shown_on s i h lo hi = rw (walk s i h) (rw (le-leb 33 (get_or s i 0) lo, le-leb (get_or s i 0) 126 hi))
+shown_on s i h e = rw (drop_more s i 0 h) (rw e)
 
-pub shown_low : (s : List ℕ) (i : ℕ) → i < length s → get_or s i 0 < 33 → printable (drop i s) ≡ 0
+pub shown_stop : (s : List ℕ) (i : ℕ) → i < length s → is_ascii_graphic (get_or s i 0) ≡ false → printable (drop i s) ≡ 0
 unfolding printable
-shown_low s i h lo = rw (walk s i h) (rw (lt-leb 33 (get_or s i 0) lo))
-
-pub shown_high : (s : List ℕ) (i : ℕ) → i < length s → 33 ≤ get_or s i 0 → 126 < get_or s i 0 → printable (drop i s) ≡ 0
-unfolding printable
-shown_high s i h lo hi = rw (walk s i h) (rw (le-leb 33 (get_or s i 0) lo, lt-leb (get_or s i 0) 126 hi))
+shown_stop s i h e = rw (drop_more s i 0 h) (rw e)
 
 pub shown_end : (s : List ℕ) (i : ℕ) → length s ≤ i → printable (drop i s) ≡ 0
 unfolding printable
-shown_end s i h = rw (walked s i h)
+shown_end s i h = rw (drop_of_length-le s h)
 
 -- the code's `&s[from..]`
 pub tail : (s : List ℕ) (from : ℕ) → take (length s - from) (drop from s) ≡ drop from s
 tail s from = take_all (length s - from) (drop from s) (omega (arith, length-drop from s))
 
+-- ---- a part
+pub part_is : (s : List ℕ) (a e : ℕ) (r : Option (Bor (List ℕ))) (d : Bor (List ℕ)) → d.now ≡ []
+    → MatchOption r ((e < a) ⊎ (length s < e)) (λ x. (a ≤ e) × (e ≤ length s) × (x.now ≡ take (e - a) (drop a s)) × (length x.now + a ≡ e)) → (unwrap_or r d).now ≡ part_of s a e
+unfolding part_of
+part_is s a e (Some x) d z h = rw (le-leb a e h.0, le-leb e (length s) h.1) h.2
+part_is s a e None d z (inl h) = rw (lt-leb a e h) z
+part_is s a e None d z (inr h) = rw (lt-leb e (length s) h, and-false (leb a e)) z
+
 -- ---- bytes moved to the front
-module _ (buf : List ℕ) (start i : ℕ) where
-  front_length : start + i ≤ length buf → length (take i (drop start buf)) ≡ i
-  front_length h = length-take-le i (drop start buf) (omega (arith, length-drop start buf))
-
-  pub moved_length : start + i ≤ length buf → length (moved_to buf start i) ≡ length buf
-  unfolding moved_to
-  moved_length h = length_front buf (take i (drop start buf)) i (front_length h ∙ sym (length-take-le i buf (omega arith)))
-
-  -- the byte that is moved is still where it was
-  ahead : start + i < length buf → get_or (moved_to buf start i) (start + i) 0 ≡ get_or buf (start + i) 0
-  unfolding moved_to
-  ahead h =
-      let f = take i (drop start buf) in
-      let l : length f ≡ i = front_length (omega arith) in
-      let e : start + i ≡ length f + start = omega arith in
-      ap (λ (k : ℕ). get_or (f ++ drop i buf) k 0) e ∙ get_or-append-add f (drop i buf) start 0 ∙ get_or-drop i buf start 0
-      ∙ ap (λ (k : ℕ). get_or buf k 0) (omega arith)
-
-  pub moved_on : start + i < length buf → set (moved_to buf start i) i (get_or (moved_to buf start i) (start + i) 0) ≡ moved_to buf start (i + 1)
-  unfolding moved_to
-  moved_on h =
-      let f = take i (drop start buf) in
-      let v = get_or buf (start + i) 0 in
-      let t : take (suc i) (drop start buf) ≡ f ++ (v ∷ []) =
-      take-suc (drop start buf) i 0 (omega (arith, length-drop start buf)) ∙ ap (λ (x : ℕ). f ++ (x ∷ [])) (get_or-drop start buf i 0) in
-      ap (set (f ++ drop i buf) i) (ahead h)
-      ∙ ap (λ (r : List ℕ). set (f ++ r) i v) (drop-cons buf i 0 (omega arith))
-      ∙ set_at f (get_or buf i 0) (drop (suc i) buf) v i (front_length (omega arith))
-      ∙ sym (append_snoc f v (drop (suc i) buf))
-      ∙ ap (λ (r : List ℕ). r ++ drop (suc i) buf) (sym t)
-      ∙ ap (λ (k : ℕ). take k (drop start buf) ++ drop k buf) (sym (add-one i))
+pub moved_length : (buf : List ℕ) (start i : ℕ) → start + i ≤ length buf → length (moved_to buf start i) ≡ length buf
+unfolding moved_to
+moved_length buf start i h =
+    length_front buf (take i (drop start buf)) i
+    (length-take-le i (drop start buf) (omega (arith, length-drop start buf)) ∙ sym (length-take-le i buf (omega arith)))

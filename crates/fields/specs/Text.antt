@@ -1,9 +1,9 @@
 -- A line of a list of calls, as bytes: its text, its fields, its words. Definitions only.
-use Rattle.std.specs.Prelude.{ℕ, zero, suc, ◌+◌, ◌-◌, min, Bool, true, false, ◌&&◌, cond, List, [], ◌∷◌, ◌++◌, length, get_or, take, drop, eqb, leb, ltb}
+use Rattle.std.specs.Prelude.{ℕ, zero, suc, ◌+◌, ◌-◌, min, Bool, true, false, ◌&&◌, cond, List, [], ◌∷◌, ◌++◌, length, get_or, take, drop, eqb, leb, ltb, None, Some, Option, Ok, Err, Result}
 use Prim.Native.Char.{code}
 use Prim.Native.String.{String, [] as none, ◌∷◌ as ◌before◌}
 use Rattle.fields.specs.declared.Field.{Field}
-use Rattle.fields.specs.declared.Field.TheVariants.{At, Stray, End}
+use Rattle.fields.specs.declared.Stray.{Stray}
 
 -- a text's bytes
 abbrev pub spell : String → List ℕ
@@ -27,11 +27,12 @@ text_end line = cond (ltb (first_of 35 line) (length line)) (back_over line (fir
 
 -- Fields are separated by single spaces, the parts of a field by single commas: the one that starts at `from` runs up to the next separator, or to the end of the text,
 -- and the next one starts past that separator. Two separators in a row, or one at either end, leave a field of no bytes: a stray one. Past the end of the text there is no field.
-unfoldable pub field_at : ℕ → List ℕ → ℕ → Field
+unfoldable pub field_at : ℕ → List ℕ → ℕ → Result (Option Field) Stray
 unfolding first_of
 field_at sep t from =
-    cond (ltb (length t) from) End
-    (cond (eqb (first_of sep (drop from t)) 0) Stray (At from (from + first_of sep (drop from t)) (from + first_of sep (drop from t) + 1)))
+    cond (ltb (length t) from) (Ok None)
+    (cond (eqb (first_of sep (drop from t)) 0) (Err (record { sep = sep }))
+    (Ok (Some (record { start = from; end = from + first_of sep (drop from t); next = from + first_of sep (drop from t) + 1 }))))
 
 -- the bytes of s from a up to e, none where s has no such part
 unfoldable pub part_of : List ℕ → ℕ → ℕ → List ℕ

@@ -4,30 +4,25 @@
 ghost use Rattle.std.specs.Prelude.{◌≡◌, ◌≤◌, ◌-◌, length};
 ghost use Rattle.fields.specs.Text.{first_of, back_over, text_end, field_at, part_of, same_bytes, shown_of, moved_to};
 
-// What stands at a place of a text: a field, a separator that separates nothing, or no more.
+// A field of a text: the bytes from `start` up to `end`, and where the next field starts.
 #[derive(Clone, Copy)]
-pub enum Field {
-    At {
-        start: usize,
-        end: usize,
-        next: usize,
-    },
-    Stray,
-    End,
+pub struct Field {
+    pub start: usize,
+    pub end: usize,
+    pub next: usize,
 }
 
-// Where a byte first stands, or the length.
+// A separator that separates nothing.
+#[derive(Clone, Copy)]
+pub struct Stray {
+    pub sep: u8,
+}
+
+// Where a byte first stands, or the length: where to cut.
 pub fn find(s: &[u8], byte: u8) -> usize
     ensures { result ≡ first_of byte s.now }
 {
-    let mut i = 0;
-    while i < s.len() {
-        if s[i] == byte {
-            return i;
-        }
-        i += 1;
-    }
-    i
+    s.iter().position(|&b| b == byte).unwrap_or(s.len())
 }
 
 // The end of a part, moved back over spaces.
@@ -35,14 +30,12 @@ fn back_over(s: &[u8], end: usize) -> usize
     requires { end ≤ length s.now }
     ensures { result ≡ back_over s.now end }
 {
-    let mut n = end;
-    while n > 0 {
-        if s[n - 1] != b' ' {
-            return n;
+    for n in (0..end).rev() {
+        if s[n] != b' ' {
+            return n + 1;
         }
-        n -= 1;
     }
-    n
+    0
 }
 
 // Where a line's text ends and its comment starts, if it has one.
@@ -57,76 +50,50 @@ pub fn text_end(line: &[u8]) -> usize
     }
 }
 
-// The field that starts at `from`, and where the next one starts: past the `sep` after it.
-pub fn next_field(t: &[u8], from: usize, sep: u8) -> Field
+// The field that starts at `from`, none past the end of the text. The next one starts past the `sep` after it.
+pub fn next_field(t: &[u8], from: usize, sep: u8) -> Result<Option<Field>, Stray>
     ensures { result ≡ field_at sep t.now from }
 {
     if from > t.len() {
-        return Field::End;
+        return Ok(None);
     }
     let n = find(&t[from..], sep);
     if n == 0 {
-        return Field::Stray;
+        return Err(Stray { sep });
     }
     let end = from + n;
     let next = end + 1;
-    Field::At {
+    Ok(Some(Field {
         start: from,
         end,
         next,
-    }
+    }))
 }
 
 // A part of the bytes, empty where there is no such part.
 pub fn part(s: &[u8], start: usize, end: usize) -> &[u8]
     ensures { result.now ≡ part_of s.now start end }
 {
-    if start <= end {
-        if end <= s.len() {
-            &s[start..end]
-        } else {
-            &s[..0]
-        }
-    } else {
-        &s[..0]
-    }
+    s.get(start..end).unwrap_or(&[])
 }
 
-// Whether two slices hold the same bytes.
+// Whether two slices hold the same bytes, in the words that callers promise: `==` there would take a lemma at each of seven calls.
 pub fn same(s: &[u8], word: &[u8]) -> bool
     ensures { result ≡ same_bytes s.now word.now }
 {
-    if s.len() != word.len() {
-        return false;
-    }
-    let mut i = 0;
-    while i < s.len() {
-        if s[i] != word[i] {
-            return false;
-        }
-        i += 1;
-    }
-    true
+    s == word
 }
 
 // How many bytes of a word an answer may show.
 pub fn shown(s: &[u8]) -> usize
     ensures { result ≡ shown_of s.now }
 {
-    let mut i = 0;
-    while i < s.len() {
-        if i == 32 {
-            return 32;
-        }
-        if s[i] < 33 {
+    for (i, c) in s.iter().enumerate() {
+        if i == 32 || !c.is_ascii_graphic() {
             return i;
         }
-        if s[i] > 126 {
-            return i;
-        }
-        i += 1;
     }
-    i
+    s.len()
 }
 
 // Moves the bytes from `start` to `end` to the front of a buffer, and answers how many they are.
@@ -134,11 +101,6 @@ pub fn to_front(buf: &mut [u8], start: usize, end: usize) -> usize
     requires { (start ≤ end) × (end ≤ length buf.old) }
     ensures { (result ≡ end - start) × (buf.new ≡ moved_to buf.old start (end - start)) }
 {
-    let n = end - start;
-    let mut i = 0;
-    while i < n {
-        buf[i] = buf[start + i];
-        i += 1;
-    }
-    n
+    buf.copy_within(start..end, 0);
+    end - start
 }

@@ -3,29 +3,36 @@
 use mathlib.Core.Path.{◌≡◌, refl, sym, ap, ap₂, ◌∙◌, subst}
 use Prim.Native.Nat.{ℕ, zero, suc, ◌+◌, ◌*◌, ◌/◌, ◌≤◌}
 use native.Mathlib.Omega.{arith}
-use mathlib.Core.Bool.{Bool, true, false, ◌&&◌}
+use mathlib.Core.Bool.{Bool, true, ◌&&◌}
 use mathlib.Core.List.{List, [], ◌∷◌, ◌++◌, map}
 use borrow.Author.Tests.{leb-true}
 use lib.Dec.{leb}
 use lib.ListN.{length, get_or, take, drop, length-take, length-drop, take-append-drop}
-use lib.Seq.{take_all}
+use lib.Seq.{take_all, drop-cons}
 use Rattle.table.specs.Questions.{all_sound}
 use Rattle.table.proofs.Tests.{by_bool, clash, and_1, and_2}
 use Rattle.heard.specs.Heard as heard
 use Rattle.verdicts.specs.Verdict as run
 use Rattle.rows.specs.declared.Row.{Row}
 use Rattle.rows.specs.Read.{form, fits, row_is}
-use Rattle.flat.specs.Words.{words_of_row, heard_words, closed_of, row_fits, row_of, junk, opened_of}
+use Rattle.flat.specs.Words.{words_of_row, heard_words, closed_of, row_fits, row_of, opened_of}
 use Rattle.flat.specs.Table.{rows_from, rows_of, words_of}
-use Rattle.flat.proofs.Opening.{opens, opens_junk}
+use Rattle.flat.proofs.Opening.{opened_fit, opened_junk}
 use Rattle.flat.proofs.Returns.{junk_unfit}
 use Rattle.flat.proofs.Rows.{wide_is, has, whole}
-use Rattle.packing.specs.Words.{most32, most64, wide2, maybe_fits, site_of, site_fits, id_of, verdict_of, verdict_fits}
-use Rattle.packing.proofs.Keys.{firsts, first_is}
-use Rattle.packing.proofs.Returns.{low_is, clock_closed}
+use Rattle.packing.specs.Words.{most32, most64, wide2, maybe_fits, site_of, site_fits, verdict_of, verdict_fits}
+use Rattle.packing.specs.Laws.{low_is}
 use Rattle.packing.proofs.Closed.{id_closed, site_closed, verdict_closed, key_closed}
 
 -- A ROW, its words one by one
+abbrev firsts : ℕ → List ℕ → ℕ → List ℕ
+firsts zero k i = []
+firsts (suc n) k i = get_or k i 0 ∷ firsts n k (suc i)
+
+first_is : (n : ℕ) (k : List ℕ) (i : ℕ) → i + n ≤ length k → take n (drop i k) ≡ firsts n k i
+first_is zero k i h = refl
+first_is (suc n) k i h = ap (take (suc n)) (drop-cons k i 0 (omega arith)) ∙ ap (λ (l : List ℕ). get_or k i 0 ∷ l) (first_is n k (suc i) (omega arith))
+
 abbrev pub each : List ℕ → List ℕ
 each ws = firsts 25 ws 0
 
@@ -79,7 +86,6 @@ module _ (ws : List ℕ) where
         verdict_closed (w 14) (w 15) (w 16) (w 17) (w 18) (w 19) (w 20) (drop 21 (each ws)) (and_2 numbers verdict r3),
         low_is (w 21) (leb-true (w 21) most32 (and_1 (leb (w 21) most32) (leb (w 22) most32) l2)),
         low_is (w 22) (leb-true (w 22) most32 (and_2 (leb (w 21) most32) (leb (w 22) most32) l2)),
-        clock_closed (id_of (drop 23 (each ws))),
         id_closed (w 23) (w 24) [] (and_2 odd clock n2),
       )
 
@@ -88,11 +94,11 @@ pub closed_opened : (ws : List ℕ) → length ws ≡ 25 → fits (opened_of ws)
 closed_opened ws long h =
     by_bool (row_fits ws)
     (λ f.
-    let r : row_of ws ≡ opened_of ws = opens ws true (row_of ws) (sym f) refl refl in
+    let r : row_of ws ≡ opened_of ws = sym (opened_fit ws f) in
     let s : fits (row_of ws).part ≡ true = ap (λ (x : Row). fits x.part) r ∙ h in
     let e = each_is ws long in
     ap closed_of (sym r) ∙ subst (λ (l : List ℕ). closed_of (row_of l) ≡ l) (sym e) (each_closed ws (ap row_fits (sym e) ∙ f) (ap (λ (l : List ℕ). fits (row_of l).part) (sym e) ∙ s)))
-    (λ f. clash h (ap (λ (x : Row). fits x.part) (sym (opens_junk ws false junk (sym f) refl refl)) ∙ junk_unfit))
+    (λ f. clash h (ap (λ (x : Row). fits x.part) (opened_junk ws f) ∙ junk_unfit))
 
 -- ALL ROWS
 rows_closed : (n : ℕ) (ws : List ℕ) → length ws ≡ words_of_row * n → all_sound form.sound (map row_is (rows_from n ws)) ≡ true → words_of (rows_from n ws) ≡ ws

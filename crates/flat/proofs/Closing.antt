@@ -1,20 +1,17 @@
 -- What a row's stores come to: its words, in a run. Each function's store is the last run, after those of the calls before it.
-use mathlib.Core.Path.{◌≡◌, refl, sym, ap, ◌∙◌, subst}
+use Rattle.std.specs.Prelude.{Option}
+use mathlib.Core.Path.{◌≡◌, refl, sym, ap, ap₂, ◌∙◌}
 use Prim.Native.Nat.{ℕ}
 use native.Mathlib.Omega.{arith}
 use mathlib.Core.List.{List, [], ◌∷◌, ◌++◌}
-use lib.ListN.{length, length-append}
+use lib.ListN.{length, set, length-append}
 use lib.Seq.{sets}
-use Rattle.view.specs.declared.EpochId.{EpochId}
 use Rattle.heard.specs.declared.Heard.{Heard}
-use Rattle.verdicts.specs.declared.JudgedAt.{JudgedAt}
 use Rattle.rows.specs.declared.Row.{Row}
 use Rattle.flat.specs.Words.{heard_words, closed_of}
-use Rattle.packing.specs.Words.{key_words, site_words, id_words, clock_id, verdict_words}
-use Rattle.packing.specs.Ranges.{IdIn}
-use Rattle.packing.proofs.Runs.{runs2, runs4, over_all}
-use Rattle.packing.proofs.Keys.{key_words_lem}
-use Rattle.packing.proofs.Closing.{site_words_lem, id_words_lem, verdict_words_lem}
+use Rattle.packing.specs.Words.{key_words, site_words, id_words, verdict_words}
+use Rattle.packing.proofs.Runs.{runs4, over_all}
+use Rattle.packing.proofs.Lengths.{key_words_lem, site_words_lem, id_words_lem, verdict_words_lem}
 
 pub heard_words_lem : (h : Heard) → length (heard_words h) ≡ 10
 unfolding heard_words
@@ -25,31 +22,24 @@ heard_words_lem h =
 pub row_words_lem : (r : Row) → length (closed_of r) ≡ 25
 unfolding closed_of
 row_words_lem r =
-    let k = key_words r.key in let h = heard_words r.part.heard in let v = verdict_words r.part.verdict in let c = id_words (clock_id r.part.judged_ms) in let z = r.prev ∷ r.next ∷ c in
-    length-append k (h ++ (v ++ z)) ∙ omega (arith, key_words_lem r.key, length-append h (v ++ z), heard_words_lem r.part.heard, length-append v z, verdict_words_lem r.part.verdict, id_words_lem (clock_id r.part.judged_ms))
+    let k = key_words r.key in let h = heard_words r.part.heard in let v = verdict_words r.part.verdict in let c = id_words r.part.judged_ms in let z = r.prev ∷ r.next ∷ c in
+    length-append k (h ++ (v ++ z)) ∙ omega (arith, key_words_lem r.key, length-append h (v ++ z), heard_words_lem r.part.heard, length-append v z, verdict_words_lem r.part.verdict, id_words_lem r.part.judged_ms)
 
 -- STORES
-pub clock_puts : (l z : List ℕ) (i : EpochId) (c : JudgedAt) → i ≡ clock_id c → z ≡ sets l 23 (id_words i) → z ≡ sets l 23 (id_words (clock_id c))
-clock_puts l z i c e h = h ∙ ap (λ (j : EpochId). sets l 23 (id_words j)) e
-
-pub clock_in : (i : EpochId) (c : JudgedAt) → i ≡ clock_id c → IdIn i → IdIn (clock_id c)
-clock_in i c e h = subst IdIn e h
-
-pub heard_puts : (l w x y z : List ℕ) (g : ℕ) (h : Heard) → g ≡ h.generation → w ≡ sets l 4 (site_words h.site) → x ≡ sets w 9 (g ∷ []) → y ≡ sets x 10 (id_words h.even) → z ≡ sets y 12 (id_words h.odd) → z ≡ sets l 4 (heard_words h)
+pub heard_puts : (l w x y z s e o : List ℕ) (g : ℕ) (h : Heard) → s ≡ site_words h.site → g ≡ h.generation → e ≡ id_words h.even → o ≡ id_words h.odd
+    → w ≡ sets l 4 s → x ≡ sets w 9 (g ∷ []) → y ≡ sets x 10 e → z ≡ sets y 12 o → z ≡ sets l 4 (heard_words h)
 unfolding heard_words
-heard_puts l w x y z g h eg ew ex ey ez =
-    runs4 l (site_words h.site) (g ∷ []) (id_words h.even) (id_words h.odd) w x y z 4 9 10 12 (omega (arith, site_words_lem h.site)) refl (omega (arith, id_words_lem h.even)) ew ex ey ez
-    ∙ ap (λ (n : ℕ). sets l 4 (site_words h.site ++ (n ∷ (id_words h.even ++ id_words h.odd)))) eg
+heard_puts l w x y z s e o g h es eg ee eo ew ex ey ez =
+    runs4 l (site_words h.site) (h.generation ∷ []) (id_words h.even) (id_words h.odd) w x y z 4 9 10 12 (omega (arith, site_words_lem h.site)) refl (omega (arith, id_words_lem h.even))
+    (ew ∙ ap (sets l 4) es) (ex ∙ ap (λ (n : ℕ). sets w 9 (n ∷ [])) eg) (ey ∙ ap (sets x 10) ee) (ez ∙ ap (sets y 12) eo)
 
-pub tail_puts : (l y z : List ℕ) (a b p n : ℕ) (c : JudgedAt) → a ≡ p → b ≡ n → y ≡ sets l 21 (a ∷ b ∷ []) → z ≡ sets y 23 (id_words (clock_id c)) → z ≡ sets l 21 (p ∷ n ∷ id_words (clock_id c))
-tail_puts l y z a b p n c ea eb ey ez = runs2 l (p ∷ n ∷ []) (id_words (clock_id c)) y z 21 23 refl (ey ∙ ap (sets l 21) ends) ez
-  where
-    ends : a ∷ b ∷ [] ≡ p ∷ n ∷ []
-    ends = simp (ea, eb)
+pub tail_puts : (l z : List ℕ) (a b p n : ℕ) (c : Option ℕ) → a ≡ p → b ≡ n → z ≡ sets (set (set l 21 a) 22 b) 23 (id_words c) → z ≡ sets l 21 (p ∷ n ∷ id_words c)
+tail_puts l z a b p n c ea eb ez = ez ∙ ap₂ (λ (x y : ℕ). sets (set (set l 21 x) 22 y) 23 (id_words c)) ea eb
 
-pub closes : (l w x y z : List ℕ) (r : Row) → length l ≡ 25 → w ≡ sets l 0 (key_words r.key) → x ≡ sets w 4 (heard_words r.part.heard) → y ≡ sets x 14 (verdict_words r.part.verdict)
-    → z ≡ sets y 21 (r.prev ∷ r.next ∷ id_words (clock_id r.part.judged_ms)) → z ≡ closed_of r
+pub closes : (l w x y z k v : List ℕ) (r : Row) → length l ≡ 25 → k ≡ key_words r.key → v ≡ verdict_words r.part.verdict → w ≡ sets l 0 k → x ≡ sets w 4 (heard_words r.part.heard)
+    → y ≡ sets x 14 v → z ≡ sets y 21 (r.prev ∷ r.next ∷ id_words r.part.judged_ms) → z ≡ closed_of r
 unfolding closed_of
-closes l w x y z r e ew ex ey ez =
-    runs4 l (key_words r.key) (heard_words r.part.heard) (verdict_words r.part.verdict) (r.prev ∷ r.next ∷ id_words (clock_id r.part.judged_ms)) w x y z 0 4 14 21 (omega (arith, key_words_lem r.key)) (omega (arith, heard_words_lem r.part.heard)) (omega (arith, verdict_words_lem r.part.verdict)) ew ex ey ez
+closes l w x y z k v r e ek ev ew ex ey ez =
+    runs4 l (key_words r.key) (heard_words r.part.heard) (verdict_words r.part.verdict) (r.prev ∷ r.next ∷ id_words r.part.judged_ms) w x y z 0 4 14 21
+    (omega (arith, key_words_lem r.key)) (omega (arith, heard_words_lem r.part.heard)) (omega (arith, verdict_words_lem r.part.verdict)) (ew ∙ ap (sets l 0) ek) ex (ey ∙ ap (sets x 14) ev) ez
     ∙ over_all l (closed_of r) (row_words_lem r ∙ sym e)

@@ -1,68 +1,61 @@
--- What a row's words open as, by the tests that the code makes of them.
-use mathlib.Core.Path.{◌≡◌, refl, sym, ap, ap₂, ◌∙◌}
-use Prim.Native.Nat.{ℕ}
+-- What a row's 25 words open as, by the tests that the code makes of them and of what is left of them from a place on.
+use Rattle.std.specs.Prelude.{Option}
+use mathlib.Core.Path.{◌≡◌, refl, sym, ◌∙◌, subst}
+use Prim.Native.Nat.{ℕ, ◌+◌, ◌<◌}
+use native.Mathlib.Omega.{arith}
 use mathlib.Core.Bool.{Bool, true, false, ◌&&◌}
 use mathlib.Core.List.{List}
 use lib.Dec.{leb}
-use lib.ListN.{get_or, drop}
-use Rattle.sites.specs.declared.Claimed.{Claimed}
-use Rattle.view.specs.declared.EpochId.{EpochId}
+use lib.ListN.{length, get_or, take, drop, length-drop}
+use lib.Seq.{get_or-drop, take_all}
+use mir.Syntax.{w64}
+use mir.Val.{Fits}
+use Rattle.sites.specs.declared.Site.{Site}
+use Rattle.verdicts.specs.declared.Verdict.{Verdict}
 use Rattle.heard.specs.declared.Heard.{Heard}
-use Rattle.verdicts.specs.declared.Judged.{Judged}
-use Rattle.verdicts.specs.declared.JudgedAt.{JudgedAt}
 use Rattle.rows.specs.declared.Row.{Row}
-use Rattle.flat.specs.Words.{numbers_fit, row_fits, head_fits, heard_of, row_of, junk, opened_of}
-use Rattle.packing.specs.Words.{most32, most64, low32, key_of, wide2, maybe_fits, site_of, site_fits, id_of, clock_of, verdict_of, verdict_fits}
+use Rattle.flat.specs.Words.{numbers_fit, row_fits, heard_of, row_of, junk, opened_of}
+use Rattle.packing.specs.Words.{most32, most64, low32, key_of, maybe_fits, site_of, site_fits, id_of, verdict_of, verdict_fits}
+use Rattle.packing.proofs.Tests.{wide}
 
--- three tests, one after the other: the third tells, or the second or the first has told
-pub third_tells : (x y z a b r : Bool) → a ≡ x → a ≡ true → b ≡ y → b ≡ true → r ≡ z → r ≡ (x && (y && z))
-third_tells x y z a b r ea ta eb tb er = er ∙ sym (ap₂ {C = Bool} (λ p q. p && (q && z)) (sym ea ∙ ta) (sym eb ∙ tb))
+module _ (ws : List ℕ) (long : length ws ≡ 25) where
+  -- the n words from the i-th on are all that is left
+  rest : (i n : ℕ) → i + n ≡ 25 → take n (drop i ws) ≡ drop i ws
+  rest i n e = take_all n (drop i ws) (omega (arith, long, e, length-drop i ws))
 
-pub second_tells : (x y z a b : Bool) → a ≡ x → a ≡ true → b ≡ y → b ≡ false → false ≡ (x && (y && z))
-second_tells x y z a b ea ta eb tb = sym (ap₂ {C = Bool} (λ p q. p && (q && z)) (sym ea ∙ ta) (sym eb ∙ tb))
+  pub numbers_told : (r : Bool)
+      → r ≡ (maybe_fits most64 (take 15 (drop 10 ws)) && (maybe_fits most64 (take 13 (drop 12 ws)) && maybe_fits most64 (take 2 (drop 23 ws)))) → r ≡ numbers_fit ws
+  numbers_told r e = simp (e, rest 10 15 refl, rest 12 13 refl, rest 23 2 refl)
 
-pub first_tells : (x z a : Bool) → a ≡ x → a ≡ false → false ≡ (x && z)
-first_tells x z a ea ta = sym (ap (λ (p : Bool). p && z) (sym ea ∙ ta))
+  -- the key's words and the degrees are in range by their type
+  pub fits_by_parts : ((i : ℕ) → get_or ws i 0 < 18446744073709551616) → (r : Bool)
+      → r ≡ ((leb (get_or ws 9 0) most32 && (leb (get_or ws 21 0) most32 && leb (get_or ws 22 0) most32)) && (site_fits (take 21 (drop 4 ws)) && (numbers_fit ws && verdict_fits (take 11 (drop 14 ws)))))
+      → r ≡ row_fits ws
+  unfolding row_fits
+  fits_by_parts h r e =
+      let f : (i : ℕ) → Fits w64 (get_or ws i 0) = λ i. record { fits = h i } in
+      simp (e, rest 4 21 refl, rest 14 11 refl, wide ws f, wide (drop 2 ws) (λ i. subst (Fits w64) (sym (get_or-drop 2 ws i 0)) (f (2 + i))))
 
-and_assoc : (a b c : Bool) → ((a && b) && c) ≡ (a && (b && c))
-and_assoc true b c = refl
-and_assoc false b c = refl
+  pub heard_is : (s : Option Site) (g : ℕ) (e o : Option ℕ) → s ≡ site_of (take 21 (drop 4 ws)) → g ≡ low32 (get_or ws 9 0) → e ≡ id_of (take 15 (drop 10 ws)) → o ≡ id_of (take 13 (drop 12 ws))
+      → record { site = s; generation = g; even = e; odd = o } ≡ heard_of ws
+  heard_is s g e o es eg ee eo = simp (es, eg, ee, eo, rest 4 21 refl, rest 10 15 refl, rest 12 13 refl)
 
-behind_three : (k l s x : Bool) → ((k && (l && s)) && x) ≡ (k && (l && (s && x)))
-behind_three k l s x = and_assoc k (l && s) x ∙ ap (λ (y : Bool). k && y) (and_assoc l s x)
+  pub row_is_lem : (k : List ℕ) (h : Heard) (v : Option Verdict) (i : Option ℕ) (p n : ℕ) → k ≡ key_of ws → h ≡ heard_of ws → v ≡ verdict_of (take 11 (drop 14 ws)) → i ≡ id_of (take 2 (drop 23 ws))
+      → p ≡ low32 (get_or ws 21 0) → n ≡ low32 (get_or ws 22 0) → record { key = k; part = record { heard = h; verdict = v; judged_ms = i }; prev = p; next = n } ≡ row_of ws
+  unfolding row_of
+  row_is_lem k h v i p n ek eh ev ei ep en = simp (ek, eh, ev, ei, ep, en, rest 14 11 refl, rest 23 2 refl)
 
 module _ (ws : List ℕ) where
-  pub links_fit_is : (m : ℕ) (a b c x r : Bool) → m ≡ most32 → a ≡ leb (get_or ws 9 0) m → b ≡ leb (get_or ws 21 0) m → c ≡ leb (get_or ws 22 0) m → x ≡ (b && c) → r ≡ (a && x) → r ≡ (leb (get_or ws 9 0) most32 && (leb (get_or ws 21 0) most32 && leb (get_or ws 22 0) most32))
-  links_fit_is m a b c x r em ea eb ec ex er = simp (er, ex, ec, eb, ea, em)
+  pub opened_fit : row_fits ws ≡ true → opened_of ws ≡ row_of ws
+  unfolding opened_of
+  opened_fit h = simp h
 
-  pub heard_is : (s : Claimed) (g : ℕ) (e o : EpochId) → s ≡ site_of (drop 4 ws) → g ≡ low32 (get_or ws 9 0) → e ≡ id_of (drop 10 ws) → o ≡ id_of (drop 12 ws) → record { site = s; generation = g; even = e; odd = o } ≡ heard_of ws
-  heard_is s g e o es eg ee eo = simp (es, eg, ee, eo)
-
-  -- a number of 64 bits or none, by the name of the largest
-  pub maybe64 : (m i : ℕ) (a : Bool) → m ≡ most64 → a ≡ maybe_fits m (drop i ws) → a ≡ maybe_fits most64 (drop i ws)
-  maybe64 m i a em ea = ea ∙ ap (λ (n : ℕ). maybe_fits n (drop i ws)) em
-
-  pub key_fits_is : (j k w : Bool) → j ≡ wide2 ws → k ≡ wide2 (drop 2 ws) → w ≡ (j && k) → w ≡ (wide2 ws && wide2 (drop 2 ws))
-  key_fits_is j k w ej ek ew = ew ∙ ap₂ {C = Bool} (λ a b. a && b) ej ek
-
-  pub row_in_parts : (head_fits ws && (numbers_fit ws && verdict_fits (drop 14 ws))) ≡ row_fits ws
-  unfolding row_fits
-  row_in_parts =
-      let k = wide2 ws && wide2 (drop 2 ws) in let l = leb (get_or ws 9 0) most32 && (leb (get_or ws 21 0) most32 && leb (get_or ws 22 0) most32) in
-      behind_three k l (site_fits (drop 4 ws)) (numbers_fit ws && verdict_fits (drop 14 ws))
-
-  pub row_fits_is : (h n v x r : Bool) → h ≡ head_fits ws → n ≡ numbers_fit ws → v ≡ verdict_fits (drop 14 ws) → x ≡ (n && v) → r ≡ (h && x) → r ≡ row_fits ws
-  row_fits_is h n v x r eh en ev ex er = er ∙ ap₂ {C = Bool} (λ a b. a && b) eh (ex ∙ ap₂ {C = Bool} (λ a b. a && b) en ev) ∙ row_in_parts
-
-  pub row_is_lem : (k : List ℕ) (h : Heard) (v : Judged) (i : EpochId) (c : JudgedAt) (p n : ℕ) → k ≡ key_of ws → h ≡ heard_of ws → v ≡ verdict_of (drop 14 ws) → i ≡ id_of (drop 23 ws) → c ≡ clock_of i → p ≡ low32 (get_or ws 21 0) → n ≡ low32 (get_or ws 22 0)
-      → record { key = k; part = record { heard = h; verdict = v; judged_ms = c }; prev = p; next = n } ≡ row_of ws
-  unfolding row_of
-  row_is_lem k h v i c p n ek eh ev ei ec ep en = simp (ek, eh, ev, ec, ei, ep, en)
+  pub opened_junk : row_fits ws ≡ false → opened_of ws ≡ junk
+  unfolding opened_of
+  opened_junk h = simp h
 
   pub opens : (t : Bool) (r : Row) → t ≡ row_fits ws → t ≡ true → r ≡ row_of ws → r ≡ opened_of ws
-  unfolding opened_of
-  opens t r e h g = simp (sym e ∙ h, g)
+  opens t r e h g = g ∙ sym (opened_fit (sym e ∙ h))
 
   pub opens_junk : (t : Bool) (r : Row) → t ≡ row_fits ws → t ≡ false → r ≡ junk → r ≡ opened_of ws
-  unfolding opened_of
-  opens_junk t r e h g = simp (sym e ∙ h, g)
+  opens_junk t r e h g = g ∙ sym (opened_junk (sym e ∙ h))

@@ -11,16 +11,17 @@ use Rattle.rows.specs.declared.Row.{Row}
 use Rattle.rows.specs.Read.{fits}
 use Rattle.flat.specs.Words.{heard_words, closed_of, numbers_fit, row_fits, heard_of, row_of, junk, opened_of}
 use Rattle.flat.specs.Ranges.{HeardIn, RowIn}
-use Rattle.packing.specs.Words.{most32, most64, low32, word_of, eight, key_words, key_of, wide2, site_words, site_fits, id_words, id_of, clock_id, clock_of, verdict_words, verdict_of, verdict_fits}
+use Rattle.packing.specs.Words.{most32, most64, low32, key_words, key_of, wide2, site_words, site_fits, id_words, id_of, verdict_words, verdict_of, verdict_fits}
 use Rattle.packing.specs.Ranges.{IdIn, VerdictIn}
 use Rattle.packing.proofs.Runs.{here, there, past}
 use Rattle.packing.proofs.Keys.{key_back, eight_below}
-use Rattle.packing.proofs.Closing.{site_words_lem, id_words_lem, verdict_words_lem}
-use Rattle.packing.proofs.Returns.{low_is, site_back_lem, site_fits_lem, id_back, id_fits, clock_back, verdict_back_lem, verdict_fits_lem}
+use Rattle.packing.proofs.Lengths.{site_words_lem, id_words_lem, verdict_words_lem}
+use Rattle.packing.specs.Laws.{low_is}
+use Rattle.packing.proofs.Returns.{site_back_lem, site_fits_lem, id_back, id_fits, verdict_back_lem, verdict_fits_lem}
 
 -- A ROW: what is left of its words from each part on, whatever its key is
 abbrev clock_on : Row → List ℕ
-clock_on r = id_words (clock_id r.part.judged_ms)
+clock_on r = id_words r.part.judged_ms
 
 abbrev links : Row → List ℕ
 links r = r.prev ∷ r.next ∷ clock_on r
@@ -41,7 +42,7 @@ site_on r = site_words r.part.heard.site ++ (r.part.heard.generation ∷ even_on
 pub record RestIn (r : Row) : Type 0 where
   pub heard : HeardIn r.part.heard
   pub verdict : VerdictIn r.part.verdict
-  pub clock : IdIn (clock_id r.part.judged_ms)
+  pub clock : IdIn r.part.judged_ms
   pub prev : r.prev ≤ most32
   pub next : r.next ≤ most32
 
@@ -103,7 +104,7 @@ module _ (words : List ℕ) (r : Row) (rest : drop 4 words ≡ heard_words r.par
     id_fits r.part.heard.even (odd_on r) h.heard.even,
     id_fits r.part.heard.odd (verdict_on r) h.heard.odd,
     verdict_fits_lem r.part.verdict (links r) h.verdict,
-    id_fits (clock_id r.part.judged_ms) [] h.clock,
+    id_fits r.part.judged_ms [] h.clock,
   )
 
   heard_back : RestIn r → heard_of words ≡ r.part.heard
@@ -114,8 +115,8 @@ module _ (words : List ℕ) (r : Row) (rest : drop 4 words ≡ heard_words r.par
     from12,
     low_is r.part.heard.generation h.heard.generation,
     site_back_lem r.part.heard.site (r.part.heard.generation ∷ even_on r) h.heard.site,
-    id_back r.part.heard.even (odd_on r),
-    id_back r.part.heard.odd (verdict_on r),
+    id_back r.part.heard.even (odd_on r) h.heard.even,
+    id_back r.part.heard.odd (verdict_on r) h.heard.odd,
   )
 
   -- of the key, whatever its words are
@@ -123,7 +124,7 @@ module _ (words : List ℕ) (r : Row) (rest : drop 4 words ≡ heard_words r.par
   unfolding opened_of row_of
   opened_words k h w e =
       let v : verdict_of (drop 14 words) ≡ r.part.verdict = ap verdict_of from14 ∙ verdict_back_lem r.part.verdict (links r) h.verdict in
-      let c : clock_of (id_of (drop 23 words)) ≡ r.part.judged_ms = ap (λ (l : List ℕ). clock_of (id_of l)) from23 ∙ ap clock_of (id_back (clock_id r.part.judged_ms) []) ∙ clock_back r.part.judged_ms in
+      let c : id_of (drop 23 words) ≡ r.part.judged_ms = ap id_of from23 ∙ id_back r.part.judged_ms [] h.clock in
       let p : low32 (get_or words 21 0) ≡ r.prev = ap low32 at21 ∙ low_is r.prev h.prev in
       let n : low32 (get_or words 22 0) ≡ r.next = ap low32 at22 ∙ low_is r.next h.next in
       simp (words_fit h w, e, heard_back h, v, c, p, n)
@@ -139,7 +140,7 @@ closed_key r h = key_back r.key (heard_words r.part.heard ++ verdict_on r) h.key
 
 closed_wide : (r : Row) → RowIn r → (wide2 (closed_of r) && wide2 (drop 2 (closed_of r))) ≡ true
 unfolding closed_of key_words
-closed_wide r h = simp (le-leb (word_of (eight r.key 0)) most64 (eight_below r.key 0 h.key), le-leb (word_of (eight r.key 8)) most64 (eight_below r.key 8 h.key), le-leb (word_of (eight r.key 16)) most64 (eight_below r.key 16 h.key), le-leb (word_of (eight r.key 24)) most64 (eight_below r.key 24 h.key))
+closed_wide r h = simp (le-leb _ most64 (eight_below r.key 0 h.key), le-leb _ most64 (eight_below r.key 8 h.key), le-leb _ most64 (eight_below r.key 16 h.key), le-leb _ most64 (eight_below r.key 24 h.key))
 
 pub opened_closed : (r : Row) → RowIn r → opened_of (closed_of r) ≡ r
 opened_closed r h = opened_words (closed_of r) r (closed_rest r) r.key (record { heard = h.heard; verdict = h.verdict; clock = h.clock; prev = h.prev; next = h.next }) (closed_wide r h) (closed_key r h)

@@ -6,10 +6,10 @@ use native.Mathlib.Omega.{arith}
 use native.Mathlib.Nat.{div-add-mod', mul-le-mul_right}
 use mathlib.Core.Bool.{Bool, true, false, cond}
 use mathlib.Core.List.{List, [], ◌∷◌, ◌++◌}
-use borrow.Author.Tests.{eq-eqb, ne_eqb, le-leb, leb-true, leb-false, lt-ltb, le-ltb, eqb-true}
+use borrow.Author.Tests.{eq-eqb, ne_eqb, le-leb, leb-true, leb-false, lt-ltb, le-ltb, eqb-true, eqb-false}
 use lib.Dec.{eqb, leb, ltb}
-use lib.ListN.{length, get_or, set, take, drop, length-append, length-take, length-drop, get_or-eq_default}
-use lib.Seq.{take_at, drop_at, take-append-le, drop-append-le, take-take, drop-drop, set_out, take-nil}
+use lib.ListN.{length, get_or, set, take, drop, length-append, length-take, length-drop}
+use lib.Seq.{take_at, drop_at, take-append-le, drop-append-le, take-take, drop-drop, take-nil}
 use mir.Syntax.{w32, w64}
 use mir.Val.{Fits}
 use Rattle.table.proofs.Tests.{by_bool}
@@ -111,6 +111,13 @@ unfolding rows_of
 count_torn ws w e h =
     sym (ap (λ (b : Bool). length (cond b (rows_from (length ws / words_of_row) ws) [])) (ne_eqb (length ws % words_of_row) 0 (λ z. h (ap (λ (n : ℕ). length ws % n) e ∙ z))))
 
+-- the chunks of 25 and what is left over
+pub counted : (ws : List ℕ) (n m : ℕ) (t : Bool) → n ≡ length ws / 25 → m ≡ length ws % 25 → t ≡ eqb m 0 → t ≡ true → n ≡ length (rows_of ws)
+counted ws n m t en em e h = en ∙ count_whole ws 25 wide_is (sym em ∙ eqb-true m 0 (sym e ∙ h))
+
+pub left_over : (ws : List ℕ) (m : ℕ) (t : Bool) → m ≡ length ws % 25 → t ≡ eqb m 0 → t ≡ false → 0 ≡ length (rows_of ws)
+left_over ws m t em e h = count_torn ws 25 wide_is (λ z. eqb-false m 0 (sym e ∙ h) (em ∙ z))
+
 -- a number that is no row's, by where its row would end
 pub outside_whole : (ws : List ℕ) (w i z : ℕ) → w ≡ words_of_row → length ws % w ≡ 0 → z ≡ words_of_row * i + words_of_row → ltb (length ws) z ≡ leb (length (rows_of ws)) i
 outside_whole ws w i z e h ez =
@@ -129,9 +136,6 @@ outside_whole ws w i z e h ez =
 
 pub outside_torn : (ws : List ℕ) (w i : ℕ) → w ≡ words_of_row → length ws % w ≢ 0 → true ≡ leb (length (rows_of ws)) i
 outside_torn ws w i e h = sym (le-leb 0 i (omega arith)) ∙ ap (λ (n : ℕ). leb n i) (count_torn ws w e h)
-
-pub width_some : (w : ℕ) → w ≡ words_of_row → 0 < w
-width_some w e = omega (arith, e, some)
 
 -- a slice with a row is a whole number of rows
 pub record Has (ws : List ℕ) (i : ℕ) : Type 0 where
@@ -158,35 +162,20 @@ module _ (ws : List ℕ) (i : ℕ) (t : Bool) (e : t ≡ leb (length (rows_of ws
   pub is_in_lem : t ≡ false → i < length (rows_of ws)
   is_in_lem f = leb-false (length (rows_of ws)) i (sym e ∙ f)
 
-  pub not_got : (r : Row) → t ≡ true → r ≡ blank → r ≡ get_or (rows_of ws) i blank
-  not_got r f g = g ∙ sym (get_or-eq_default (rows_of ws) blank {n = i} (leb-true (length (rows_of ws)) i (sym e ∙ f)))
+-- A ROW as its words open
+pub row_opens : (ws : List ℕ) (i : ℕ) → i < length (rows_of ws) → get_or (rows_of ws) i blank ≡ opened_of (take words_of_row (drop (words_of_row * i) ws))
+row_opens ws i inside = let h = has ws i inside in ap (λ (l : List Row). get_or l i blank) h.all ∙ row_at (length ws / words_of_row) i ws h.within
 
-  pub not_put : (r : Row) → t ≡ true → rows_of ws ≡ set (rows_of ws) i r
-  not_put r f = sym (set_out (rows_of ws) i r (leb-true (length (rows_of ws)) i (sym e ∙ f)))
+pub got : (ws l : List ℕ) (i : ℕ) (t : Bool) (r : Row) → t ≡ leb (length (rows_of ws)) i → t ≡ false → l ≡ take words_of_row (drop (words_of_row * i) ws) → r ≡ opened_of l → r ≡ get_or (rows_of ws) i blank
+got ws l i t r e f el er = er ∙ ap opened_of el ∙ sym (row_opens ws i (leb-false (length (rows_of ws)) i (sym e ∙ f)))
 
 -- ONE ROW'S WORDS, from the a-th to before the z-th
-module _ (i a z : ℕ) (ea : a ≡ words_of_row * i) (ez : z ≡ words_of_row * i + words_of_row) (ys : List ℕ) where
-  pub part_long : length ys ≡ z - a → length ys ≡ 25
-  part_long h = omega (arith, h, ea, ez, wide_is)
-
-  pub part_wide : length ys ≡ z - a → 25 ≤ length ys
-  part_wide h = omega (arith, part_long h)
-
-  -- room for the verdict
-  pub part_verdict : length ys ≡ z - a → 14 + 7 ≤ length ys
-  part_verdict h = omega (arith, part_long h)
-
 module _ (ws : List ℕ) (i a z : ℕ) (inside : i < length (rows_of ws)) (ea : a ≡ words_of_row * i) (ez : z ≡ words_of_row * i + words_of_row) where
   wide : z - a ≡ words_of_row
   wide = omega (arith, ea, ez)
 
   pub words_are : take (z - a) (drop a ws) ≡ take words_of_row (drop (words_of_row * i) ws)
   words_are = ap (λ (n : ℕ). take n (drop a ws)) wide ∙ ap (λ (n : ℕ). take words_of_row (drop n ws)) ea
-
-  pub got : (r : Row) → r ≡ opened_of (take (z - a) (drop a ws)) → r ≡ get_or (rows_of ws) i blank
-  got r g =
-      let h = has ws i inside in
-      g ∙ ap opened_of words_are ∙ sym (ap (λ (l : List Row). get_or l i blank) h.all ∙ row_at (length ws / words_of_row) i ws h.within)
 
   pub end_in : z ≤ length ws
   end_in = let h = has ws i inside in omega (arith, ez, room_for ws (length ws / words_of_row) i (whole ws i h) h.within)

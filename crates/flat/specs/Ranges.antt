@@ -2,7 +2,7 @@
 use Rattle.std.specs.Prelude.{◌≤◌}
 use Rattle.heard.specs.declared.Heard.{Heard}
 use Rattle.rows.specs.declared.Row.{Row}
-use Rattle.packing.specs.Words.{most32, clock_id}
+use Rattle.packing.specs.Words.{most32}
 use Rattle.packing.specs.Ranges.{KeyIn, SiteIn, IdIn, VerdictIn}
 
 pub record HeardIn (h : Heard) : Type 0 where
@@ -15,6 +15,6 @@ pub record RowIn (r : Row) : Type 0 where
   pub key : KeyIn r.key
   pub heard : HeardIn r.part.heard
   pub verdict : VerdictIn r.part.verdict
-  pub clock : IdIn (clock_id r.part.judged_ms)
+  pub clock : IdIn r.part.judged_ms
   pub prev : r.prev ≤ most32
   pub next : r.next ≤ most32

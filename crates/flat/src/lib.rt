@@ -2,22 +2,22 @@
 // field with crate `packing`. `count`, `outside`, `get` and `put` ask nothing of the slice: words that no row was closed as open as a row that question 2 refuses.
 #![tactic(auto)]
 
-ghost use Rattle.std.specs.Prelude.{◌≡◌, ◌&&◌, ◌∷◌, ◌≤◌, ◌+◌, ◌*◌, leb, length, set, get_or};
+ghost use Rattle.std.specs.Prelude.{◌≡◌, ◌&&◌, ◌∷◌, ◌<◌, ◌≤◌, ◌+◌, ◌*◌, leb, length, set, get_or, take, drop};
 ghost use Rattle.std.proofs.lemmas.List.Edits.{sets};
 ghost use Rattle.rows.specs.Links.{blank};
 ghost use Rattle.flat.specs.Words as row;
-ghost use Rattle.flat.specs.Words.{words_of_row, closed_of, row_fits, head_fits, row_of, opened_of};
+ghost use Rattle.flat.specs.Words.{words_of_row, closed_of, row_fits, row_of, opened_of};
 ghost use Rattle.flat.specs.Ranges.{HeardIn, RowIn};
 ghost use Rattle.flat.specs.Table.{rows_of};
-ghost use Rattle.packing.specs.Words.{most32, id_words, clock_id};
+ghost use Rattle.packing.specs.Words.{most32, id_words};
 ghost use Rattle.packing.specs.Ranges.{IdIn};
 
 use heard::Heard;
+use packing::Word;
 use receiver::Part;
 use rows::Row;
-use sites::{Altitude, Claimed, Site};
-use verdicts::{Judged, JudgedAt};
-use view::EpochId;
+use sites::Site;
+use verdicts::Verdict;
 
 // ---- a row
 
@@ -25,31 +25,26 @@ pub fn put_heard(words: &mut [u64], heard: Heard)
     requires { 25 ≤ length words.old }
     ensures { (words.new ≡ sets words.old 4 (row.heard_words heard)) × HeardIn heard }
 {
-    let site = heard.site;
-    let even = heard.even;
-    let odd = heard.odd;
-    packing::put_site(words, 4, site);
-    let generation = packing::wide32(heard.generation);
-    packing::put1(words, 9, generation);
-    packing::put_id(words, 10, even);
-    packing::put_id(words, 12, odd);
+    packing::put(words, 4, &packing::site_words(heard.site));
+    words[9] = heard.generation.word();
+    packing::put(words, 10, &packing::maybe_words(heard.even));
+    packing::put(words, 12, &packing::maybe_words(heard.odd));
 }
 
-pub fn put_clock(words: &mut [u64], kept: JudgedAt)
+pub fn put_clock(words: &mut [u64], kept: Option<u64>)
     requires { 25 ≤ length words.old }
-    ensures { (words.new ≡ sets words.old 23 (id_words (clock_id kept))) × IdIn (clock_id kept) }
+    ensures { (words.new ≡ sets words.old 23 (id_words kept)) × IdIn kept }
 {
-    packing::put_id(words, 23, packing::clock_id(kept));
+    packing::put(words, 23, &packing::maybe_words(kept));
 }
 
 // The links, and the clock behind them.
-fn put_tail(words: &mut [u64], p: u32, n: u32, kept: JudgedAt)
+fn put_tail(words: &mut [u64], p: u32, n: u32, kept: Option<u64>)
     requires { 25 ≤ length words.old }
-    ensures { (words.new ≡ sets words.old 21 (p ∷ n ∷ id_words (clock_id kept))) × (p ≤ most32) × (n ≤ most32) × IdIn (clock_id kept) }
+    ensures { (words.new ≡ sets words.old 21 (p ∷ n ∷ id_words kept)) × (p ≤ most32) × (n ≤ most32) × IdIn kept }
 {
-    let a = packing::wide32(p);
-    let b = packing::wide32(n);
-    packing::put2(words, 21, a, b);
+    words[21] = p.word();
+    words[22] = n.word();
     put_clock(words, kept);
 }
 
@@ -57,100 +52,61 @@ fn close(words: &mut [u64], row: Row)
     requires { length words.old ≡ 25 }
     ensures { (words.new ≡ closed_of row) × RowIn row }
 {
-    let part = row.part;
-    let heard = part.heard;
-    let key = row.key;
-    packing::put_key(words, key);
-    put_heard(words, heard);
-    let verdict = part.verdict;
-    packing::put_verdict(words, 14, verdict);
-    let kept = part.judged_ms;
-    put_tail(words, row.prev, row.next, kept);
+    packing::put(words, 0, &packing::key_words(row.key));
+    put_heard(words, row.part.heard);
+    packing::put(words, 14, &packing::verdict_words(row.part.verdict));
+    put_tail(words, row.prev, row.next, row.part.judged_ms);
 }
 
-fn links_fit(words: &[u64]) -> bool
-    requires { 25 ≤ length words.now }
+// A row's generation and links.
+fn links_fit(words: &[u64; 25]) -> bool
     ensures { result ≡ (leb (get_or words.now 9 0) most32 && (leb (get_or words.now 21 0) most32 && leb (get_or words.now 22 0) most32)) }
 {
-    let most = packing::most32();
-    let g = words[9] <= most;
-    let p = words[21] <= most;
-    let n = words[22] <= most;
-    scans::both(g, scans::both(p, n))
+    u32::fits(words[9]) && u32::fits(words[21]) && u32::fits(words[22])
 }
 
-pub fn numbers_fit(words: &[u64]) -> bool
-    requires { 25 ≤ length words.now }
+// Its ids and its clock.
+fn numbers_fit(words: &[u64; 25]) -> bool
     ensures { result ≡ row.numbers_fit words.now }
 {
-    let most = packing::most64();
-    let even = packing::maybe_fits(words, 10, most);
-    if even {
-        let odd = packing::maybe_fits(words, 12, most);
-        if odd {
-            return packing::maybe_fits(words, 23, most);
-        }
-    }
-    false
+    packing::maybe_fits::<u64>(&words[10..])
+        && packing::maybe_fits::<u64>(&words[12..])
+        && packing::maybe_fits::<u64>(&words[23..])
 }
 
-// Key, site, generation and links. Crate `glances` asks this, the numbers and the verdict in turn: each is short enough to be compiled in its place.
-pub fn head_fits(words: &[u64]) -> bool
-    requires { 25 ≤ length words.now }
-    ensures { result ≡ head_fits words.now }
-{
-    let key = scans::both(packing::wide2(words, 0), packing::wide2(words, 2));
-    if key {
-        let links = links_fit(words);
-        if links {
-            return packing::site_fits(words, 4);
-        }
-    }
-    false
-}
-
-pub fn row_fits(words: &[u64]) -> bool
-    requires { 25 ≤ length words.now }
+// Any two words are degrees, and any four a key.
+pub fn row_fits(words: &[u64; 25]) -> bool
     ensures { result ≡ row_fits words.now }
 {
-    let head = head_fits(words);
-    let numbers = numbers_fit(words);
-    let verdict = packing::verdict_fits(words, 14);
-    scans::both(head, scans::both(numbers, verdict))
+    links_fit(words)
+        && packing::site_fits(&words[4..])
+        && numbers_fit(words)
+        && packing::verdict_fits(&words[14..])
 }
 
-fn heard_at(words: &[u64]) -> Heard
-    requires { 25 ≤ length words.now }
+fn heard_of(words: &[u64; 25]) -> Heard
     ensures { result ≡ row.heard_of words.now }
 {
-    let site = packing::site_at(words, 4);
-    let even = packing::id_at(words, 10);
-    let odd = packing::id_at(words, 12);
     Heard {
-        site: site,
-        generation: packing::low32(words[9]),
-        even: even,
-        odd: odd,
+        site: packing::site_of(&words[4..]),
+        generation: u32::from_word(words[9]),
+        even: packing::maybe_of(&words[10..]),
+        odd: packing::maybe_of(&words[12..]),
     }
 }
 
-fn row_of(words: &[u64]) -> Row
-    requires { 25 ≤ length words.now }
+fn row_of(words: &[u64; 25]) -> Row
     ensures { result ≡ row_of words.now }
 {
-    let key = packing::key_at(words);
-    let heard = heard_at(words);
-    let verdict = packing::verdict_at(words, 14);
-    let kept = packing::clock_of(packing::id_at(words, 23));
     Row {
-        key: key,
+        key: packing::key_at(words),
         part: Part {
-            heard: heard,
-            verdict: verdict,
-            judged_ms: kept,
+            heard: heard_of(words),
+            verdict: packing::verdict_of(&words[14..]),
+            judged_ms: packing::maybe_of(&words[23..]),
         },
-        prev: packing::low32(words[21]),
-        next: packing::low32(words[22]),
+        prev: u32::from_word(words[21]),
+        next: u32::from_word(words[22]),
     }
 }
 
@@ -161,25 +117,24 @@ fn junk() -> Row
         key: [0u8; 32],
         part: Part {
             heard: Heard {
-                site: Claimed::At(Site {
+                site: Some(Site {
                     lat: 0.0 / 0.0,
                     lon: 0.0 / 0.0,
-                    alt_m: Altitude::Unknown,
+                    alt_m: None,
                 }),
                 generation: 0,
-                even: EpochId::Nothing,
-                odd: EpochId::Nothing,
+                even: None,
+                odd: None,
             },
-            verdict: Judged::Never,
-            judged_ms: JudgedAt::Never,
+            verdict: None,
+            judged_ms: None,
         },
-        prev: 4294967295,
-        next: 4294967295,
+        prev: u32::MAX,
+        next: u32::MAX,
     }
 }
 
-fn open(words: &[u64]) -> Row
-    requires { 25 ≤ length words.now }
+fn open(words: &[u64; 25]) -> Row
     ensures { result ≡ opened_of words.now }
 {
     if row_fits(words) {
@@ -191,19 +146,11 @@ fn open(words: &[u64]) -> Row
 
 // ---- the rows of a slice
 
-// How many words a row has. By name, so that no proof computes with the number.
-fn row_words() -> usize
-    ensures { result ≡ words_of_row }
-{
-    25
-}
-
 pub fn count(rows: &[u64]) -> usize
     ensures { result ≡ length (rows_of rows.now) }
 {
-    let w = row_words();
-    let n = rows.len();
-    if n % w == 0 { n / w } else { 0 }
+    let (whole, rest) = rows.as_chunks::<25>();
+    if rest.is_empty() { whole.len() } else { 0 }
 }
 
 pub fn start_of(at: u32) -> usize
@@ -222,30 +169,35 @@ pub fn end_of(at: u32) -> usize
 pub fn outside(rows: &[u64], at: u32) -> bool
     ensures { result ≡ leb (length (rows_of rows.now)) at }
 {
-    let w = row_words();
     let n = rows.len();
-    if n % w == 0 { n < end_of(at) } else { true }
+    n % 25 != 0 || n < end_of(at)
+}
+
+// A row's words.
+pub fn words_at(rows: &[u64], at: u32) -> &[u64; 25]
+    requires { at < length (rows_of rows.now) }
+    ensures { result.now ≡ take words_of_row (drop (words_of_row * at) rows.now) }
+{
+    let a = start_of(at);
+    let z = end_of(at);
+    rows[a..z].first_chunk().unwrap()
 }
 
 // A link's row; the unmade one for a link that is no row's number.
 pub fn get(rows: &[u64], at: u32) -> Row
     ensures { result ≡ get_or (rows_of rows.now) at blank }
 {
-    let bad = outside(rows, at);
-    if bad {
+    if outside(rows, at) {
         return rows::unmade();
     }
-    let a = start_of(at);
-    let z = end_of(at);
-    open(&rows[a..z])
+    open(words_at(rows, at))
 }
 
 // A store at a link; none for a link that is no row's number.
 pub fn put(rows: &mut [u64], at: u32, row: Row)
     ensures { (rows_of rows.new ≡ set (rows_of rows.old) at row) × (length rows.new ≡ length rows.old) }
 {
-    let bad = outside(rows, at);
-    if bad {
+    if outside(rows, at) {
         return;
     }
     let a = start_of(at);

@@ -1,4 +1,5 @@
 -- The allowance is no NaN and not negative, so the excess of an edge of at most 800 is from 0 to 800. Assumes nothing.
+use Rattle.std.specs.Prelude.{Some, None}
 use mathlib.Core.Path.{◌≡◌, refl, sym, subst}
 use mathlib.Core.Bool.{Bool, true, false, not, cond}
 use Prim.Native.Nat.{ℕ, zero, suc, ◌+◌, ◌-◌, ◌*◌, ◌/◌, ◌^◌, ◌≤◌, ◌<◌}
@@ -12,7 +13,6 @@ use lib.Ieee.Bits.{is_false}
 use lib.Ieee.Order.{round_mono}
 use Rattle.root.specs.Root.{root, root_units, isqrt, plain, plus_zero}
 use Rattle.floats.specs.Horizon.{at_least_zero, horizon, allowance, four_twelve, eleven_tenths, twenty, past_of}
-use Rattle.floats.specs.declared.horizon.Past.TheVariants.{By, No}
 use Rattle.measures.specs.Steps.{distance}
 use Rattle.rank.specs.Rank.{Good}
 use Rattle.root.proofs.Signs.{true_not_false}
@@ -130,7 +130,7 @@ excess (fin false m e) (fin false n d) p q h =
     (subst (λ (v : Float). T (le (round binary64 false (a - b) c) v)) most_is (round_mono binary64 (a - b) c 800 1 (mul-pos (down_pos e) (down_pos d)) (zero-lt-suc 0) cross)))
 
 -- where the answer is an excess, it is the difference, and the edge is past
-pub by_is : (b : Bool) (e km : Float) → cond b (By e) No ≡ By km → (b ≡ true) × (e ≡ km)
+pub by_is : (b : Bool) (e km : Float) → cond b (Some e) None ≡ Some km → (b ≡ true) × (e ≡ km)
 by_is true e km h = (refl, cc)
 by_is false e km h = let z : ◌≡◌ {A = ℕ} 0 1 = cc in absurd (none z)
   where
@@ -138,7 +138,7 @@ by_is false e km h = let z : ◌≡◌ {A = ℕ} 0 1 = cc in absurd (none z)
     none h = omega arith
 
 -- an excess of a distance is a distance, so it meets what `off_km` asks for
-pub in_range : (edge a b km : Float) → T (distance edge) → past_of edge a b ≡ By km → T (distance km)
+pub in_range : (edge a b km : Float) → T (distance edge) → past_of edge a b ≡ Some km → T (distance km)
 unfolding past_of
 in_range edge a b km p h =
     let k = by_is (lt (allowance a b) edge) (sub binary64 edge (allowance a b)) km h in
@@ -152,7 +152,7 @@ distance_plain nan d = d
 distance_plain (inf s) d = d
 distance_plain (fin s m e) d = and_l (not s) (leb (m * up e) (800 * down e)) d
 
-pub excess_good : (edge a b km : Float) → T (distance edge) → past_of edge a b ≡ By km → Good km
+pub excess_good : (edge a b km : Float) → T (distance edge) → past_of edge a b ≡ Some km → Good km
 unfolding past_of
 excess_good edge a b km p h =
     let k = by_is (lt (allowance a b) edge) (sub binary64 edge (allowance a b)) km h in

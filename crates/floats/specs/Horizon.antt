@@ -1,10 +1,8 @@
 -- 01, A judging, 2: the horizon in f64, every operation rounded once. Definitions only.
-use Rattle.std.specs.Prelude.{ℕ, ◌+◌, ◌*◌, false, cond, ℤ, pos, negsuc, Float}
+use Rattle.std.specs.Prelude.{ℕ, ◌+◌, ◌*◌, false, cond, ℤ, pos, negsuc, Float, Some, None, Option}
 use Rattle.std.specs.Float.{binary64}
 use Rattle.std.specs.Float.Ieee.{round, of_int, add, sub, mul, lt}
 use Rattle.root.specs.Root.{root, plus_zero}
-use Rattle.floats.specs.declared.horizon.Past.{Past}
-use Rattle.floats.specs.declared.horizon.Past.TheVariants.{By, No}
 
 -- "a NaN, negative or either zero taken as +0": none of these is above zero.
 unfoldable pub at_least_zero : Float → Float
@@ -50,5 +48,5 @@ unfoldable pub allowance : Float → Float → Float
 allowance a b = add binary64 (mul binary64 eleven_tenths (horizon a b)) twenty
 
 -- "A far bin with count and altitude is past when its edge > 1.1 × horizon + 20; its excess is the difference."
-unfoldable pub past_of : Float → Float → Float → Past
-past_of edge a b = cond (lt (allowance a b) edge) (By (sub binary64 edge (allowance a b))) No
+unfoldable pub past_of : Float → Float → Float → Option Float
+past_of edge a b = cond (lt (allowance a b) edge) (Some (sub binary64 edge (allowance a b))) None

@@ -31,8 +31,8 @@ fn from_roots(a: f64, b: f64) -> f64
 pub fn horizon_km(antenna_m: f64, aircraft_m: f64) -> f64
     ensures { result ≡ horizon antenna_m aircraft_m }
 {
-    let r = root::sqrt_both(at_least_zero(antenna_m), at_least_zero(aircraft_m));
-    from_roots(r.first, r.second)
+    let (a, b) = root::sqrt_both(at_least_zero(antenna_m), at_least_zero(aircraft_m));
+    from_roots(a, b)
 }
 
 // What a bin's edge may be at most: 1.1 × horizon + 20. The antenna goes in by its root, which is taken once for all bins.
@@ -57,21 +57,14 @@ pub fn ceiling_m(low: u8) -> f64
     feet as f64 * 0.3048
 }
 
-// A distance in kilometres, or none.
-#[derive(Clone, Copy)]
-pub enum Past {
-    By(f64),
-    No,
-}
-
 // By how much an edge is past the allowance, if it is.
-pub fn past_by(edge_km: f64, antenna_root: f64, aircraft_m: f64) -> Past
+pub fn past_by(edge_km: f64, antenna_root: f64, aircraft_m: f64) -> Option<f64>
     ensures { result ≡ past_from edge_km antenna_root aircraft_m }
 {
     let allowed = allowance_km(antenna_root, aircraft_m);
     if edge_km > allowed {
-        Past::By(edge_km - allowed)
+        Some(edge_km - allowed)
     } else {
-        Past::No
+        None
     }
 }

@@ -6,23 +6,23 @@ use mathlib.Core.Bool.{Bool, true, ◌&&◌}
 use mathlib.Core.List.{List, [], ◌∷◌, ◌++◌, append_assoc}
 use borrow.Author.Tests.{le-leb, leb-true}
 use lib.Dec.{leb}
-use lib.ListN.{length, get_or, take, drop, length-append}
+use lib.ListN.{length, get_or, set, take, drop, length-append}
 use lib.Seq.{sets, sets-eq}
 use Rattle.table.proofs.Tests.{and_1, and_2, and_both}
 use Rattle.receiver.specs.declared.Part.{Part}
 use Rattle.rows.specs.declared.Row.{Row}
 use Rattle.rows.specs.Links.{with_links, with_part}
-use Rattle.packing.specs.Words.{most32, key_of, wide2, maybe_fits, altitude_of, site_of, site_fits, id_of, by_of, run_of, verdict_of, run_fits, verdict_fits, clock_id, id_words, verdict_words}
+use Rattle.packing.specs.Words.{most32, key_of, wide2, maybe_fits, site_of, site_fits, verdict_of, run_of, run_fits, verdict_fits, id_words, verdict_words}
 use Rattle.flat.specs.Words.{numbers_fit, heard_words, row_fits, row_of, opened_of}
 use Rattle.packing.specs.Ranges.{VerdictIn, IdIn}
 use Rattle.flat.specs.Ranges.{HeardIn}
 use Rattle.packing.proofs.Runs.{runs2, over_rest}
-use Rattle.packing.proofs.Closing.{verdict_words_lem, id_words_lem}
+use Rattle.packing.proofs.Lengths.{verdict_words_lem, id_words_lem}
 use Rattle.flat.proofs.Closing.{heard_words_lem}
-use Rattle.packing.proofs.Returns.{low_is}
+use Rattle.packing.specs.Laws.{low_is}
 use Rattle.flat.proofs.Returns.{opened_words}
 use Rattle.flat.proofs.Closed.{each, each_is}
-use Rattle.glances.proofs.Places.{opened_fit}
+use Rattle.flat.proofs.Opening.{opened_fit}
 
 -- the tests of a row: the key, generation and links, and the parts
 abbrev key : List ℕ → Bool
@@ -53,16 +53,16 @@ module _ (ws : List ℕ) (long : length ws ≡ 25) (fit : row_fits ws ≡ true) 
         (and_2 (low (each ws)) (rest (each ws)) all))
 
     linked_row_lem : row_of linked ≡ with_links (row_of (each ws)) p n
-    unfolding row_of key_of site_of altitude_of id_of verdict_of run_of by_of
+    unfolding row_of key_of site_of verdict_of run_of
     linked_row_lem = ap₂ {C = Row} (λ x y. with_links (row_of (each ws)) x y) (low_is p hp) (low_is n hn)
 
-    pub links_stored : (a b : ℕ) (z : List ℕ) → a ≡ p → b ≡ n → z ≡ sets ws 21 (a ∷ b ∷ []) → opened_of z ≡ with_links (opened_of ws) p n
+    pub links_stored : (a b : ℕ) (z : List ℕ) → a ≡ p → b ≡ n → z ≡ set (set ws 21 a) 22 b → opened_of z ≡ with_links (opened_of ws) p n
     links_stored a b z ea eb e =
         ap opened_of (e ∙ ap₂ {C = List ℕ} (λ x y. sets ws 21 (x ∷ y ∷ [])) ea eb ∙ ap (λ (l : List ℕ). sets l 21 (p ∷ n ∷ [])) (each_is ws long)) ∙ opened_fit linked linked_fit ∙ linked_row_lem
         ∙ ap (λ (r : Row). with_links r p n) (sym (opened_fit (each ws) fit_each) ∙ ap opened_of (sym (each_is ws long)))
 
   -- A PART
-  module _ (part : Part) (heard : HeardIn part.heard) (verdict : VerdictIn part.verdict) (clock : IdIn (clock_id part.judged_ms)) where
+  module _ (part : Part) (heard : HeardIn part.heard) (verdict : VerdictIn part.verdict) (clock : IdIn part.judged_ms) where
     abbrev part_words : List ℕ
     part_words = heard_words part.heard ++ verdict_words part.verdict
 
@@ -73,7 +73,7 @@ module _ (ws : List ℕ) (long : length ws ≡ 25) (fit : row_fits ws ≡ true) 
     links = get_or ws 21 0 ∷ get_or ws 22 0 ∷ []
 
     abbrev kept : List ℕ
-    kept = id_words (clock_id part.judged_ms)
+    kept = id_words part.judged_ms
 
     -- all words before the clock's
     abbrev front : List ℕ
@@ -95,7 +95,7 @@ module _ (ws : List ℕ) (long : length ws ≡ 25) (fit : row_fits ws ≡ true) 
         ∙ ap (λ (l : List ℕ). take 4 (each ws) ++ l) (sym (append_assoc part_words links (get_or ws 23 0 ∷ get_or ws 24 0 ∷ [])))
 
     parted_is : sets (sets ws 4 part_words) 23 kept ≡ parted
-    parted_is = ap (λ (l : List ℕ). sets l 23 kept) front_is ∙ over_rest front (get_or ws 23 0 ∷ get_or ws 24 0 ∷ []) kept 23 front_words (id_words_lem (clock_id part.judged_ms))
+    parted_is = ap (λ (l : List ℕ). sets l 23 kept) front_is ∙ over_rest front (get_or ws 23 0 ∷ get_or ws 24 0 ∷ []) kept 23 front_words (id_words_lem part.judged_ms)
 
     small : (leb (get_or ws 21 0) most32 && leb (get_or ws 22 0) most32) ≡ true
     unfolding row_fits
@@ -121,7 +121,7 @@ module _ (ws : List ℕ) (long : length ws ≡ 25) (fit : row_fits ws ≡ true) 
     unfolding row_of
     row_is_lem = ap₂ {C = Row} (λ x y. record { key = key_of (each ws); part = part; prev = x; next = y }) (sym (low_is (get_or ws 21 0) (small_prev))) (sym (low_is (get_or ws 22 0) (small_next)))
 
-    pub part_stored : (x y z : List ℕ) → x ≡ sets ws 4 (heard_words part.heard) → y ≡ sets x 14 (verdict_words part.verdict) → z ≡ sets y 23 kept → opened_of z ≡ with_part (opened_of ws) part
-    part_stored x y z ex ey ez =
-        ap opened_of (ez ∙ ap (λ (l : List ℕ). sets l 23 kept) (runs2 ws (heard_words part.heard) (verdict_words part.verdict) x y 4 14 (omega (arith, heard_words_lem part.heard)) ex ey) ∙ parted_is) ∙ parted_row ∙ row_is_lem
+    pub part_stored : (x y z v : List ℕ) → v ≡ verdict_words part.verdict → x ≡ sets ws 4 (heard_words part.heard) → y ≡ sets x 14 v → z ≡ sets y 23 kept → opened_of z ≡ with_part (opened_of ws) part
+    part_stored x y z v ev ex ey ez =
+        ap opened_of (ez ∙ ap (λ (l : List ℕ). sets l 23 kept) (runs2 ws (heard_words part.heard) (verdict_words part.verdict) x y 4 14 (omega (arith, heard_words_lem part.heard)) ex (ey ∙ ap (sets x 14) ev)) ∙ parted_is) ∙ parted_row ∙ row_is_lem
         ∙ ap (λ (r : Row). with_part r part) (sym (opened_fit (each ws) fit_each) ∙ ap opened_of (sym (each_is ws long)))

@@ -2,7 +2,7 @@
 // its links or its part alone. A row with a word out of range is opened whole, and stored whole.
 #![tactic(auto)]
 
-ghost use Rattle.std.specs.Prelude.{◌≡◌, true, ◌<◌, ◌≤◌, eqb, length, set, get_or, drop};
+ghost use Rattle.std.specs.Prelude.{◌≡◌, true, ◌<◌, ◌≤◌, length, set, get_or, drop};
 ghost use Rattle.table.specs.Machine.{same};
 ghost use Rattle.heard.specs.Heard.{site_fits};
 ghost use Rattle.verdicts.specs.Verdict.{verdict_fits};
@@ -11,9 +11,10 @@ ghost use Rattle.rows.specs.Links.{blank, with_links, with_part, nexted, preved,
 ghost use Rattle.flat.specs.Words.{row_fits, row_of, junk, opened_of};
 ghost use Rattle.flat.specs.Table.{rows_of};
 ghost use Rattle.glances.specs.Glances.{fits_at, links_of, glance_of};
-ghost use Rattle.packing.specs.Words.{most64, key_of, site_of, verdict_of};
+ghost use Rattle.packing.specs.Words.{key_of, site_of, verdict_of};
 
 use measures::degrees;
+use packing::Word;
 use receiver::Part;
 
 // A row's links.
@@ -36,28 +37,27 @@ pub struct Glance {
 fn fits_at(rows: &[u64], at: u32) -> bool
     ensures { result ≡ fits_at rows.now at }
 {
-    let bad = flat::outside(rows, at);
-    if bad {
+    if flat::outside(rows, at) {
         return false;
     }
-    let a = flat::start_of(at);
-    let z = flat::end_of(at);
-    flat::row_fits(&rows[a..z])
+    flat::row_fits(flat::words_at(rows, at))
 }
 
-fn links_of(words: &[u64]) -> Links
-    requires { 25 ≤ length words.now }
+fn links_of(words: &[u64; 25]) -> Links
     ensures { result ≡ links_of (row_of words.now) }
 {
     Links {
-        prev: packing::low32(words[21]),
-        next: packing::low32(words[22]),
+        prev: u32::from_word(words[21]),
+        next: u32::from_word(words[22]),
     }
 }
 
-fn no_links() -> Links
-    ensures { result ≡ links_of blank }
+pub fn links_at(rows: &[u64], at: u32) -> Links
+    ensures { result ≡ links_of (get_or (rows_of rows.now) at blank) }
 {
+    if fits_at(rows, at) {
+        return links_of(flat::words_at(rows, at));
+    }
     let none = scans::no_row();
     Links {
         prev: none,
@@ -65,105 +65,49 @@ fn no_links() -> Links
     }
 }
 
-pub fn links_at(rows: &[u64], at: u32) -> Links
-    ensures { result ≡ links_of (get_or (rows_of rows.now) at blank) }
-{
-    let good = fits_at(rows, at);
-    if good {
-        let a = flat::start_of(at);
-        let z = flat::end_of(at);
-        return links_of(&rows[a..z]);
-    }
-    no_links()
-}
-
-fn same_word(w: u64, k: u64) -> bool
-    ensures { (result ≡ eqb k w) × ((k ≤ most64) × (w ≤ most64)) }
-{
-    k == w
-}
-
-fn same_words(words: &[u64], key: &[u64; 4]) -> bool
-    requires { 4 ≤ length words.now }
+// Of most rows the first word tells. Both are slices, so that a word is known to be of 64 bits.
+fn has_key(words: &[u64], key: &[u64]) -> bool
+    requires { (4 ≤ length key.now) × (4 ≤ length words.now) }
     ensures { result ≡ same (key_of key.now) (key_of words.now) }
 {
-    let a = same_word(words[0], key[0]);
-    let b = same_word(words[1], key[1]);
-    let c = same_word(words[2], key[2]);
-    let d = same_word(words[3], key[3]);
-    scans::both(a, scans::both(b, scans::both(c, d)))
-}
-
-// Of most rows the first word tells.
-fn has_key(words: &[u64], key: &[u64; 4]) -> bool
-    requires { 4 ≤ length words.now }
-    ensures { result ≡ same (key_of key.now) (key_of words.now) }
-{
-    let first = same_word(words[0], key[0]);
-    if first {
-        return same_words(words, key);
-    }
-    false
+    key[0] == words[0] && key[1] == words[1] && key[2] == words[2] && key[3] == words[3]
 }
 
 // Question 2 of the site and of the verdict, by the words: no site is opened, and no float made of its degrees.
-fn site_sound(words: &[u64]) -> bool
-    requires { 25 ≤ length words.now }
+fn site_sound(words: &[u64; 25]) -> bool
     ensures { result ≡ site_fits (site_of (drop 4 words.now)) }
 {
-    if words[4] == 0 {
-        return true;
-    }
-    degrees::bits_in_degrees(words[5], words[6])
+    words[4] == 0 || degrees::bits_in_degrees(words[5], words[6])
 }
 
-fn verdict_sound(words: &[u64]) -> bool
-    requires { 25 ≤ length words.now }
+fn verdict_sound(words: &[u64; 25]) -> bool
     ensures { result ≡ verdict_fits (verdict_of (drop 14 words.now)) }
 {
-    if words[14] == 0 {
-        return true;
-    }
-    if words[18] == 0 {
-        return true;
-    }
-    verdicts::is_step(packing::low32(words[19]))
+    words[14] == 0 || words[18] == 0 || verdicts::is_step(u32::from_word(words[19]))
 }
 
-fn sound_at(words: &[u64]) -> bool
-    requires { 25 ≤ length words.now }
+fn sound_at(words: &[u64; 25]) -> bool
     ensures { result ≡ fits (row_of words.now).part }
 {
-    let site = site_sound(words);
-    if site {
-        return verdict_sound(words);
-    }
-    false
+    site_sound(words) && verdict_sound(words)
 }
 
 // The four words of a key.
 pub fn words_of(key: [u8; 32]) -> [u64; 4]
     ensures { key_of result ≡ key }
 {
-    let a = packing::key_word(key, 0);
-    let b = packing::key_word(key, 8);
-    let c = packing::key_word(key, 16);
-    let d = packing::key_word(key, 24);
-    [a, b, c, d]
+    packing::key_words(key)
 }
 
-fn glance_of(words: &[u64], key: &[u64; 4]) -> Glance
-    requires { 25 ≤ length words.now }
+fn glance_of(words: &[u64; 25], key: &[u64; 4]) -> Glance
     ensures { result ≡ glance_of (key_of key.now) (row_of words.now) }
 {
     let links = links_of(words);
-    let sound = sound_at(words);
-    let same = has_key(words, key);
     Glance {
         prev: links.prev,
         next: links.next,
-        sound: sound,
-        same: same,
+        sound: sound_at(words),
+        same: has_key(words, key),
     }
 }
 
@@ -172,41 +116,12 @@ fn junk_glance(key: &[u64; 4]) -> Glance
     ensures { result ≡ glance_of (key_of key.now) junk }
 {
     let none = scans::no_row();
-    let zeros = [0u64; 4];
-    let same = same_words(&zeros, key);
     Glance {
         prev: none,
         next: none,
         sound: false,
-        same: same,
+        same: has_key(&[0; 4], key),
     }
-}
-
-// As `flat::row_fits`, for the look alone: compiled in its place, a row that fits passes it by branches.
-fn words_fit(words: &[u64]) -> bool
-    requires { 25 ≤ length words.now }
-    ensures { result ≡ row_fits words.now }
-{
-    let head = flat::head_fits(words);
-    if head {
-        let numbers = flat::numbers_fit(words);
-        if numbers {
-            return packing::verdict_fits(words, 14);
-        }
-    }
-    false
-}
-
-// The words of a row, as the row that they open as.
-fn look_of(words: &[u64], key: &[u64; 4]) -> Glance
-    requires { 25 ≤ length words.now }
-    ensures { result ≡ glance_of (key_of key.now) (opened_of words.now) }
-{
-    let good = words_fit(words);
-    if good {
-        return glance_of(words, key);
-    }
-    junk_glance(key)
 }
 
 // A look at one row for the key of these four words. The pass of question 2 takes one at every row.
@@ -214,42 +129,38 @@ pub fn look_at(rows: &[u64], at: u32, key: &[u64; 4]) -> Glance
     requires { at < length (rows_of rows.now) }
     ensures { result ≡ glance_of (key_of key.now) (get_or (rows_of rows.now) at blank) }
 {
-    let a = flat::start_of(at);
-    let z = flat::end_of(at);
-    look_of(&rows[a..z], key)
+    let words = flat::words_at(rows, at);
+    if flat::row_fits(words) {
+        return glance_of(words, key);
+    }
+    junk_glance(key)
 }
 
 fn store_links(words: &mut [u64], p: u32, n: u32)
     requires { (length words.old ≡ 25) × (row_fits words.old ≡ true) }
     ensures { (opened_of words.new ≡ with_links (opened_of words.old) p n) × (length words.new ≡ 25) }
 {
-    let a = packing::wide32(p);
-    let b = packing::wide32(n);
-    packing::put2(words, 21, a, b);
+    words[21] = p.word();
+    words[22] = n.word();
 }
 
 fn store_part(words: &mut [u64], part: Part)
     requires { (length words.old ≡ 25) × (row_fits words.old ≡ true) }
     ensures { (opened_of words.new ≡ with_part (opened_of words.old) part) × (length words.new ≡ 25) }
 {
-    let heard = part.heard;
-    let verdict = part.verdict;
-    flat::put_heard(words, heard);
-    packing::put_verdict(words, 14, verdict);
-    let kept = part.judged_ms;
-    flat::put_clock(words, kept);
+    flat::put_heard(words, part.heard);
+    packing::put(words, 14, &packing::verdict_words(part.verdict));
+    flat::put_clock(words, part.judged_ms);
 }
 
 // A link that is none is no row: nothing is stored there, and nothing opened.
 pub fn set_links(rows: &mut [u64], at: u32, p: u32, n: u32)
     ensures { (rows_of rows.new ≡ set (rows_of rows.old) at (with_links (get_or (rows_of rows.old) at blank) p n)) × (length rows.new ≡ length rows.old) }
 {
-    let bad = flat::outside(rows, at);
-    if bad {
+    if flat::outside(rows, at) {
         return;
     }
-    let good = fits_at(rows, at);
-    if good {
+    if fits_at(rows, at) {
         let a = flat::start_of(at);
         let z = flat::end_of(at);
         store_links(&mut rows[a..z], p, n);
@@ -262,8 +173,7 @@ pub fn set_links(rows: &mut [u64], at: u32, p: u32, n: u32)
 pub fn set_part(rows: &mut [u64], at: u32, part: Part)
     ensures { (rows_of rows.new ≡ parted_rows (rows_of rows.old) at part) × (length rows.new ≡ length rows.old) }
 {
-    let good = fits_at(rows, at);
-    if good {
+    if fits_at(rows, at) {
         let a = flat::start_of(at);
         let z = flat::end_of(at);
         store_part(&mut rows[a..z], part);

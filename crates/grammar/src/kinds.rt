@@ -1,415 +1,251 @@
 // The calls by their words, and one reader for each.
 ghost use Rattle.std.specs.Prelude.{◌≡◌};
-ghost use Rattle.grammar.specs.Lines.{pick_of, which_single, which_call, which_lent, which_of, told_by, saying, bare_line, key_line, watch_line, claim_line, position_line, judging_line, turn_line, place_line, same_line, horizon_line, bucket_line, bit_line, lend_line, row_line, cell_line, ends_line, line_by};
-ghost use Rattle.readers.specs.Fields.{ended_at};
+ghost use Rattle.readers.specs.Fields.{left};
+ghost use Rattle.grammar.specs.Lines.{keyed, unkeyed, bare_line, key_line, watch_line, claim_line, position_line, judging_line, turn_line, place_line, same_line, horizon_line, bucket_line, bit_line, lend_line, row_line, cell_line, ends_line, line_by};
 
-use crate::{Call, Line, Said};
+use crate::{Call, Change, Line, Said};
 use heard::Position;
-use readers::{Fault, Name, Place};
+use readers::{Fault, Name, Reader};
 use receiver::Part;
 
-#[derive(Clone, Copy)]
-pub enum Kind {
-    Watch,
-    Fresh,
-    Drop,
-    Check,
-    TakeOut,
-    Claim,
-    Position,
-    Judging,
-    Turn,
-    Digest,
-    Place,
-    Same,
-    Horizon,
-    Bucket,
-    Bit,
-    Lend,
-    Row,
-    Cell,
-    Ends,
-    Unknown,
+// The line, and nothing behind its last field.
+fn keyed(r: &mut Reader<'_>, last: Name, key: [u8; 32], line: Line) -> Result<Said, Fault>
+    ensures { left result r.new ≡ keyed last key line r.old }
+{
+    r.ended(last)?;
+    Ok(Said { line, key })
 }
 
-fn pick(word: &[u8], name: &[u8], this: Kind, other: Kind) -> Kind
-    ensures { result ≡ pick_of word.now name.now this other }
+// The same of a line that names no key.
+fn unkeyed(r: &mut Reader<'_>, last: Name, line: Line) -> Result<Said, Fault>
+    ensures { left result r.new ≡ unkeyed last line r.old }
 {
-    if fields::same(word, name) {
-        return this;
-    }
-    other
+    keyed(r, last, [0; 32], line)
 }
 
-#[tactic(auto, unfolding(crate::specs::Lines::which_single))]
-fn which_single(w: &[u8], other: Kind) -> Kind
-    ensures { result ≡ which_single w.now other }
+fn bare_line(r: &mut Reader<'_>, line: Line) -> Result<Said, Fault>
+    ensures { left result r.new ≡ bare_line line r.old }
 {
-    let a = pick(w, b"place", Kind::Place, other);
-    let b = pick(w, b"same", Kind::Same, a);
-    let c = pick(w, b"horizon", Kind::Horizon, b);
-    let d = pick(w, b"bucket", Kind::Bucket, c);
-    pick(w, b"bit", Kind::Bit, d)
-}
-
-#[tactic(auto, unfolding(crate::specs::Lines::which_call))]
-fn which_call(w: &[u8], other: Kind) -> Kind
-    ensures { result ≡ which_call w.now other }
-{
-    let a = pick(w, b"fresh", Kind::Fresh, other);
-    let b = pick(w, b"drop", Kind::Drop, a);
-    let c = pick(w, b"check", Kind::Check, b);
-    let d = pick(w, b"takeout", Kind::TakeOut, c);
-    let e = pick(w, b"claim", Kind::Claim, d);
-    let f = pick(w, b"position", Kind::Position, e);
-    let g = pick(w, b"judging", Kind::Judging, f);
-    pick(w, b"turn", Kind::Turn, g)
-}
-
-#[tactic(auto, unfolding(crate::specs::Lines::which_lent))]
-fn which_lent(w: &[u8], other: Kind) -> Kind
-    ensures { result ≡ which_lent w.now other }
-{
-    let a = pick(w, b"watch", Kind::Watch, other);
-    let b = pick(w, b"digest", Kind::Digest, a);
-    let c = pick(w, b"lend", Kind::Lend, b);
-    let d = pick(w, b"row", Kind::Row, c);
-    let e = pick(w, b"cell", Kind::Cell, d);
-    pick(w, b"ends", Kind::Ends, e)
-}
-
-// The call that a word names.
-#[tactic(auto, unfolding(crate::specs::Lines::which_of))]
-pub fn which(w: &[u8]) -> Kind
-    ensures { result ≡ which_of w.now }
-{
-    which_call(w, which_lent(w, which_single(w, Kind::Unknown)))
-}
-
-// The line, where nothing was wrong.
-fn told(p: Place, line: Line) -> Line
-    ensures { result ≡ told_by p line }
-{
-    if p.good {
-        return line;
-    }
-    let fault = p.fault;
-    Line::Wrong(fault)
-}
-
-// The same of a line that names no key, whose last field was read.
-fn closed(t: &[u8], p: Place, last: Name, line: Line) -> Said
-    ensures { result ≡ saying (told_by (ended_at t.now p last) line) }
-{
-    let e = readers::ended(t, p, last);
-    crate::say(told(e, line))
-}
-
-#[tactic(auto, unfolding(crate::specs::Lines::bare_line))]
-fn bare_line(t: &[u8], p: Place, line: Line) -> Said
-    ensures { result ≡ bare_line t.now p line }
-{
-    closed(t, p, Name::Word, line)
+    unkeyed(r, Name::Word, line)
 }
 
 #[tactic(auto, unfolding(crate::specs::Lines::key_line))]
-fn key_line(t: &[u8], p: Place, line: Line) -> Said
-    ensures { result ≡ key_line t.now p line }
+fn key_line(r: &mut Reader<'_>, line: Line) -> Result<Said, Fault>
+    ensures { left result r.new ≡ key_line line r.old }
 {
-    let k = readers::key_at(t, p);
-    let q = k.place;
-    let key = k.key;
-    let e = readers::ended(t, q, Name::Key);
-    Said {
-        line: told(e, line),
-        key,
-    }
+    let key = r.key()?;
+    keyed(r, Name::Key, key, line)
 }
 
 #[tactic(auto, unfolding(crate::specs::Lines::watch_line))]
-fn watch_line(t: &[u8], p: Place) -> Said
-    ensures { result ≡ watch_line t.now p }
+fn watch_line(r: &mut Reader<'_>) -> Result<Said, Fault>
+    ensures { left result r.new ≡ watch_line r.old }
 {
-    let w = readers::small_at(t, p, Name::Rows);
-    let q = w.place;
-    closed(t, q, Name::Rows, Line::Watch { rows: w.n })
+    let rows = r.field(Name::Rows)?;
+    unkeyed(r, Name::Rows, Line::Watch { rows })
 }
 
 #[tactic(auto, unfolding(crate::specs::Lines::claim_line))]
-fn claim_line(t: &[u8], p: Place) -> Said
-    ensures { result ≡ claim_line t.now p }
+fn claim_line(r: &mut Reader<'_>) -> Result<Said, Fault>
+    ensures { left result r.new ≡ claim_line r.old }
 {
-    let k = readers::key_at(t, p);
-    let q = k.place;
-    let key = k.key;
-    let x = readers::claim_at(t, q);
-    let behind = x.place;
-    let site = x.site;
-    let e = readers::ended(t, behind, Name::Alt);
-    Said {
-        line: told(e, Line::Call(Call::Claim(site))),
-        key,
-    }
+    let key = r.key()?;
+    let site = r.claim()?;
+    keyed(r, Name::Alt, key, Line::Call(Call::Claim(site)))
 }
 
 #[tactic(auto, unfolding(crate::specs::Lines::position_line))]
-fn position_line(t: &[u8], p: Place) -> Said
-    ensures { result ≡ position_line t.now p }
+fn position_line(r: &mut Reader<'_>) -> Result<Said, Fault>
+    ensures { left result r.new ≡ position_line r.old }
 {
-    let k = readers::key_at(t, p);
-    let pk = k.place;
-    let key = k.key;
-    let x = readers::two_at(t, pk, Name::Lat, Name::Lon);
-    let px = x.place;
-    let m = readers::feet_at(t, px);
-    let pm = m.place;
-    let a = readers::small_at(t, pm, Name::Address);
-    let pa = a.place;
-    let w = readers::whole_at(t, pa, u64::MAX, Name::AtMs);
-    let pw = w.place;
-    let e = readers::ended(t, pw, Name::AtMs);
-    let feet = m.feet;
-    Said {
-        line: told(
-            e,
-            Line::Call(Call::Position(Position {
-                lat: x.a,
-                lon: x.b,
-                feet,
-                address: a.n,
-                at_ms: w.n,
-            })),
-        ),
-        key,
-    }
+    let key = r.key()?;
+    let (lat, lon) = r.two(Name::Lat, Name::Lon)?;
+    let feet = r.feet()?;
+    let address = r.field(Name::Address)?;
+    let at_ms = r.field(Name::AtMs)?;
+    let p = Position {
+        lat,
+        lon,
+        feet,
+        address,
+        at_ms,
+    };
+    keyed(r, Name::AtMs, key, Line::Call(Call::Position(p)))
 }
 
 #[tactic(auto, unfolding(crate::specs::Lines::judging_line))]
-fn judging_line(t: &[u8], p: Place) -> Said
-    ensures { result ≡ judging_line t.now p }
+fn judging_line(r: &mut Reader<'_>) -> Result<Said, Fault>
+    ensures { left result r.new ≡ judging_line r.old }
 {
-    let k = readers::key_at(t, p);
-    let pk = k.place;
-    let key = k.key;
-    let a = readers::whole_at(t, pk, u64::MAX, Name::NowMs);
-    let pa = a.place;
-    let b = readers::whole_at(t, pa, u64::MAX, Name::Aircraft);
-    let pb = b.place;
-    let e = readers::ended(t, pb, Name::Aircraft);
-    Said {
-        line: told(
-            e,
-            Line::Call(Call::Judging {
-                now_ms: a.n,
-                aircraft: b.n,
-            }),
-        ),
-        key,
-    }
+    let key = r.key()?;
+    let now_ms = r.field(Name::NowMs)?;
+    let aircraft = r.field(Name::Aircraft)?;
+    let call = Call::Judging { now_ms, aircraft };
+    keyed(r, Name::Aircraft, key, Line::Call(call))
 }
 
 #[tactic(auto, unfolding(crate::specs::Lines::turn_line))]
-fn turn_line(t: &[u8], p: Place) -> Said
-    ensures { result ≡ turn_line t.now p }
+fn turn_line(r: &mut Reader<'_>) -> Result<Said, Fault>
+    ensures { left result r.new ≡ turn_line r.old }
 {
-    let a = readers::small_at(t, p, Name::Next);
-    let pa = a.place;
-    let b = readers::small_at(t, pa, Name::K);
-    let pb = b.place;
-    let d = readers::small_at(t, pb, Name::Room);
-    let pd = d.place;
-    closed(
-        t,
-        pd,
-        Name::Room,
-        Line::Turn {
-            next: a.n,
-            k: b.n,
-            room: d.n,
-        },
-    )
+    let next = r.field(Name::Next)?;
+    let k = r.field(Name::K)?;
+    let room = r.field(Name::Room)?;
+    unkeyed(r, Name::Room, Line::Turn { next, k, room })
 }
 
 #[tactic(auto, unfolding(crate::specs::Lines::place_line))]
-fn place_line(t: &[u8], p: Place) -> Said
-    ensures { result ≡ place_line t.now p }
+fn place_line(r: &mut Reader<'_>) -> Result<Said, Fault>
+    ensures { left result r.new ≡ place_line r.old }
 {
-    let x = readers::four_at(t, p);
-    let q = x.place;
-    closed(
-        t,
-        q,
-        Name::Lon2,
-        Line::Place {
-            lat1: x.a,
-            lon1: x.b,
-            lat2: x.c,
-            lon2: x.d,
-        },
-    )
+    let (lat1, lon1, lat2, lon2) = r.four()?;
+    let line = Line::Place {
+        lat1,
+        lon1,
+        lat2,
+        lon2,
+    };
+    unkeyed(r, Name::Lon2, line)
 }
 
 #[tactic(auto, unfolding(crate::specs::Lines::same_line))]
-fn same_line(t: &[u8], p: Place) -> Said
-    ensures { result ≡ same_line t.now p }
+fn same_line(r: &mut Reader<'_>) -> Result<Said, Fault>
+    ensures { left result r.new ≡ same_line r.old }
 {
-    let x = readers::four_at(t, p);
-    let q = x.place;
-    closed(
-        t,
-        q,
-        Name::Lon2,
-        Line::Same {
-            lat1: x.a,
-            lon1: x.b,
-            lat2: x.c,
-            lon2: x.d,
-        },
-    )
+    let (lat1, lon1, lat2, lon2) = r.four()?;
+    let line = Line::Same {
+        lat1,
+        lon1,
+        lat2,
+        lon2,
+    };
+    unkeyed(r, Name::Lon2, line)
 }
 
 #[tactic(auto, unfolding(crate::specs::Lines::horizon_line))]
-fn horizon_line(t: &[u8], p: Place) -> Said
-    ensures { result ≡ horizon_line t.now p }
+fn horizon_line(r: &mut Reader<'_>) -> Result<Said, Fault>
+    ensures { left result r.new ≡ horizon_line r.old }
 {
-    let x = readers::two_at(t, p, Name::A, Name::B);
-    let q = x.place;
-    closed(t, q, Name::B, Line::Horizon { a: x.a, b: x.b })
+    let (a, b) = r.two(Name::A, Name::B)?;
+    unkeyed(r, Name::B, Line::Horizon { a, b })
 }
 
 #[tactic(auto, unfolding(crate::specs::Lines::bucket_line))]
-fn bucket_line(t: &[u8], p: Place) -> Said
-    ensures { result ≡ bucket_line t.now p }
+fn bucket_line(r: &mut Reader<'_>) -> Result<Said, Fault>
+    ensures { left result r.new ≡ bucket_line r.old }
 {
-    let m = readers::feet_at(t, p);
-    let q = m.place;
-    let feet = m.feet;
-    closed(t, q, Name::Feet, Line::Bucket(feet))
+    let height = r.feet()?;
+    unkeyed(r, Name::Feet, Line::Bucket(height))
 }
 
 #[tactic(auto, unfolding(crate::specs::Lines::bit_line))]
-fn bit_line(t: &[u8], p: Place) -> Said
-    ensures { result ≡ bit_line t.now p }
+fn bit_line(r: &mut Reader<'_>) -> Result<Said, Fault>
+    ensures { left result r.new ≡ bit_line r.old }
 {
-    let w = readers::small_at(t, p, Name::Address);
-    let q = w.place;
-    closed(t, q, Name::Address, Line::Bit { address: w.n })
+    let bit = Line::Bit {
+        address: r.field(Name::Address)?,
+    };
+    unkeyed(r, Name::Address, bit)
 }
 
 #[tactic(auto, unfolding(crate::specs::Lines::lend_line))]
-fn lend_line(t: &[u8], p: Place) -> Said
-    ensures { result ≡ lend_line t.now p }
+fn lend_line(r: &mut Reader<'_>) -> Result<Said, Fault>
+    ensures { left result r.new ≡ lend_line r.old }
 {
-    let a = readers::small_at(t, p, Name::Rows);
-    let pa = a.place;
-    let b = readers::small_at(t, pa, Name::Cells);
-    let pb = b.place;
-    closed(
-        t,
-        pb,
-        Name::Cells,
-        Line::Lend {
-            rows: a.n,
-            cells: b.n,
-        },
-    )
+    let rows = r.field(Name::Rows)?;
+    let cells = r.field(Name::Cells)?;
+    let change = Change::Lend { rows, cells };
+    unkeyed(r, Name::Cells, Line::Change(change))
 }
 
 #[tactic(auto, unfolding(crate::specs::Lines::row_line))]
-fn row_line(t: &[u8], p: Place) -> Said
-    ensures { result ≡ row_line t.now p }
+fn row_line(r: &mut Reader<'_>) -> Result<Said, Fault>
+    ensures { left result r.new ≡ row_line r.old }
 {
-    let i = readers::small_at(t, p, Name::Number);
-    let pi = i.place;
-    let k = readers::key_at(t, pi);
-    let pk = k.place;
-    let key = k.key;
-    let x = readers::part_at(t, pk);
-    let px = x.place;
-    let heard = x.heard;
-    let verdict = x.verdict;
-    let y = readers::links_at(t, px);
-    let py = y.place;
-    let c = readers::clock_at(t, py);
-    let pc = c.place;
-    let judged_ms = c.kept;
-    let e = readers::ended(t, pc, Name::Now);
+    let at = r.field(Name::Number)?;
+    let key = r.key()?;
+    let (heard, verdict) = r.part()?;
+    let (prev, next) = r.links()?;
+    let judged_ms = r.clock()?;
     let part = Part {
         heard,
         verdict,
         judged_ms,
     };
-    Said {
-        line: told(
-            e,
-            Line::Row {
-                at: i.n,
-                part,
-                prev: y.prev,
-                next: y.next,
-            },
-        ),
-        key,
-    }
+    let change = Change::Row {
+        at,
+        part,
+        prev,
+        next,
+    };
+    keyed(r, Name::Now, key, Line::Change(change))
 }
 
 #[tactic(auto, unfolding(crate::specs::Lines::cell_line))]
-fn cell_line(t: &[u8], p: Place) -> Said
-    ensures { result ≡ cell_line t.now p }
+fn cell_line(r: &mut Reader<'_>) -> Result<Said, Fault>
+    ensures { left result r.new ≡ cell_line r.old }
 {
-    let a = readers::small_at(t, p, Name::Number);
-    let pa = a.place;
-    let b = readers::small_at(t, pa, Name::Value);
-    let pb = b.place;
-    closed(t, pb, Name::Value, Line::Cell { at: a.n, word: b.n })
+    let at = r.field(Name::Number)?;
+    let word = r.field(Name::Value)?;
+    let change = Change::Cell { at, word };
+    unkeyed(r, Name::Value, Line::Change(change))
 }
 
 #[tactic(auto, unfolding(crate::specs::Lines::ends_line))]
-fn ends_line(t: &[u8], p: Place) -> Said
-    ensures { result ≡ ends_line t.now p }
+fn ends_line(r: &mut Reader<'_>) -> Result<Said, Fault>
+    ensures { left result r.new ≡ ends_line r.old }
 {
-    let a = readers::link_at(t, p, Name::First);
-    let pa = a.place;
-    let b = readers::link_at(t, pa, Name::Last);
-    let pb = b.place;
-    let d = readers::link_at(t, pb, Name::Free);
-    let pd = d.place;
-    closed(
-        t,
-        pd,
-        Name::Free,
-        Line::Ends {
-            first: a.n,
-            last: b.n,
-            free: d.n,
-        },
-    )
+    let first = r.link(Name::First)?;
+    let last = r.link(Name::Last)?;
+    let free = r.link(Name::Free)?;
+    let change = Change::Ends { first, last, free };
+    unkeyed(r, Name::Free, Line::Change(change))
 }
 
-// A call of this kind, whose word ends at `end`.
-pub fn line_of(kind: Kind, t: &[u8], end: usize, p: Place) -> Said
-    ensures { result ≡ line_by kind t.now end p }
+// The call that a word names; the word ends at `end`. A `match` on the word's bytes leaves open goals, one for each of its hundred ways out.
+#[tactic(auto, unfolding(crate::specs::Lines::line_by))]
+pub fn line_by(r: &mut Reader<'_>, word: &[u8], end: usize) -> Result<Said, Fault>
+    ensures { left result r.new ≡ line_by word.now end r.old }
 {
-    match kind {
-        Kind::Watch => watch_line(t, p),
-        Kind::Fresh => bare_line(t, p, Line::Call(Call::Fresh)),
-        Kind::Drop => bare_line(t, p, Line::Call(Call::Drop)),
-        Kind::Check => key_line(t, p, Line::Call(Call::Check)),
-        Kind::TakeOut => key_line(t, p, Line::Call(Call::TakeOut)),
-        Kind::Claim => claim_line(t, p),
-        Kind::Position => position_line(t, p),
-        Kind::Judging => judging_line(t, p),
-        Kind::Turn => turn_line(t, p),
-        Kind::Digest => bare_line(t, p, Line::Digest),
-        Kind::Place => place_line(t, p),
-        Kind::Same => same_line(t, p),
-        Kind::Horizon => horizon_line(t, p),
-        Kind::Bucket => bucket_line(t, p),
-        Kind::Bit => bit_line(t, p),
-        Kind::Lend => lend_line(t, p),
-        Kind::Row => row_line(t, p),
-        Kind::Cell => cell_line(t, p),
-        Kind::Ends => ends_line(t, p),
-        Kind::Unknown => crate::say(Line::Wrong(Fault::Unknown { end })),
+    if fields::same(word, b"watch") {
+        watch_line(r)
+    } else if fields::same(word, b"fresh") {
+        bare_line(r, Line::Call(Call::Fresh))
+    } else if fields::same(word, b"drop") {
+        bare_line(r, Line::Call(Call::Drop))
+    } else if fields::same(word, b"check") {
+        key_line(r, Line::Call(Call::Check))
+    } else if fields::same(word, b"takeout") {
+        key_line(r, Line::Call(Call::TakeOut))
+    } else if fields::same(word, b"claim") {
+        claim_line(r)
+    } else if fields::same(word, b"position") {
+        position_line(r)
+    } else if fields::same(word, b"judging") {
+        judging_line(r)
+    } else if fields::same(word, b"turn") {
+        turn_line(r)
+    } else if fields::same(word, b"digest") {
+        bare_line(r, Line::Digest)
+    } else if fields::same(word, b"place") {
+        place_line(r)
+    } else if fields::same(word, b"same") {
+        same_line(r)
+    } else if fields::same(word, b"horizon") {
+        horizon_line(r)
+    } else if fields::same(word, b"bucket") {
+        bucket_line(r)
+    } else if fields::same(word, b"bit") {
+        bit_line(r)
+    } else if fields::same(word, b"lend") {
+        lend_line(r)
+    } else if fields::same(word, b"row") {
+        row_line(r)
+    } else if fields::same(word, b"cell") {
+        cell_line(r)
+    } else if fields::same(word, b"ends") {
+        ends_line(r)
+    } else {
+        Err(Fault::Unknown { end })
     }
 }

@@ -4,14 +4,12 @@
 mod kinds;
 
 ghost use Rattle.std.specs.Prelude.{◌≡◌};
-ghost use Rattle.grammar.specs.Lines.{saying, call_of, return_at_end, text_of, line_of};
+ghost use Rattle.grammar.specs.Lines.{call_of, return_at_end, text_of, line_of};
 
-use cells::Height;
-use fields::Field;
 use heard::Position;
-use readers::Fault;
+use readers::{Fault, Reader};
 use receiver::Part;
-use sites::Claimed;
+use sites::Site;
 
 // The seven calls, but for the key that most of them name.
 #[derive(Clone, Copy)]
@@ -20,16 +18,38 @@ pub enum Call {
     Drop,
     Check,
     TakeOut,
-    Claim(Claimed),
+    Claim(Option<Site>),
     Position(Position),
     Judging { now_ms: u64, aircraft: u64 },
+}
+
+// A line that writes the watch word by word; a row's key stands beside it.
+#[derive(Clone, Copy)]
+pub enum Change {
+    Lend {
+        rows: u32,
+        cells: u32,
+    },
+    Row {
+        at: u32,
+        part: Part,
+        prev: u32,
+        next: u32,
+    },
+    Cell {
+        at: u32,
+        word: u32,
+    },
+    Ends {
+        first: u32,
+        last: u32,
+        free: u32,
+    },
 }
 
 // What a line asks for.
 #[derive(Clone, Copy)]
 pub enum Line {
-    Nothing,
-    Wrong(Fault),
     Watch {
         rows: u32,
     },
@@ -57,29 +77,11 @@ pub enum Line {
         a: f64,
         b: f64,
     },
-    Bucket(Height),
+    Bucket(Option<i32>),
     Bit {
         address: u32,
     },
-    Lend {
-        rows: u32,
-        cells: u32,
-    },
-    Row {
-        at: u32,
-        part: Part,
-        prev: u32,
-        next: u32,
-    },
-    Cell {
-        at: u32,
-        word: u32,
-    },
-    Ends {
-        first: u32,
-        last: u32,
-        free: u32,
-    },
+    Change(Change),
 }
 
 // A line, and the key that it names: zeros where it names none.
@@ -89,61 +91,44 @@ pub struct Said {
     pub key: [u8; 32],
 }
 
-pub fn say(line: Line) -> Said
-    ensures { result ≡ saying line }
-{
-    let key = [0u8; 32];
-    Said { line, key }
-}
-
 // The call whose word ends at `end` and whose first field starts at `next`.
 #[tactic(auto, unfolding(crate::specs::Lines::call_of))]
-fn called(t: &[u8], end: usize, next: usize) -> Said
+fn called(t: &[u8], end: usize, next: usize) -> Result<Said, Fault>
     ensures { result ≡ call_of t.now end next }
 {
-    let kind = kinds::which(fields::part(t, 0, end));
-    let p = readers::start(next, b' ');
-    kinds::line_of(kind, t, end, p)
+    let mut r = Reader::new(t, next, b' ');
+    kinds::line_by(&mut r, fields::part(t, 0, end), end)
 }
 
 #[tactic(auto, unfolding(crate::specs::Lines::return_at_end))]
 fn ends_in_return(t: &[u8]) -> bool
     ensures { result ≡ return_at_end t.now }
 {
-    if t.len() == 0 {
-        return false;
-    }
-    let last = t.len() - 1;
-    t[last] == b'\r'
+    t.last() == Some(&b'\r')
 }
 
 // A line's text, its comment taken off.
 #[tactic(auto, unfolding(crate::specs::Lines::text_of))]
-fn text(t: &[u8]) -> Said
+fn text(t: &[u8]) -> Result<Option<Said>, Fault>
     ensures { result ≡ text_of t.now }
 {
     if ends_in_return(t) {
-        return say(Line::Wrong(Fault::StrayReturn));
+        return Err(Fault::StrayReturn);
     }
-    match fields::next_field(t, 0, b' ') {
-        Field::At {
-            start: _,
-            end,
-            next,
-        } => called(t, end, next),
-        Field::Stray => say(Line::Wrong(Fault::Stray { sep: b' ' })),
-        Field::End => say(Line::Nothing),
+    match fields::next_field(t, 0, b' ')? {
+        Some(f) => Ok(Some(called(t, f.end, f.next)?)),
+        None => Ok(None),
     }
 }
 
-// What a line of these bytes asks for.
+// What a line of these bytes asks for, if it asks for something.
 #[tactic(auto, unfolding(crate::specs::Lines::line_of))]
-pub fn read(s: &[u8]) -> Said
+pub fn read(s: &[u8]) -> Result<Option<Said>, Fault>
     ensures { result ≡ line_of s.now }
 {
     let end = fields::text_end(s);
     if end == 0 {
-        return say(Line::Nothing);
+        return Ok(None);
     }
     text(fields::part(s, 0, end))
 }

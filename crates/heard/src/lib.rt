@@ -10,17 +10,15 @@ ghost use Rattle.sites.specs.Sites.{held};
 ghost use Rattle.heard.specs.Heard as heard;
 ghost use Rattle.heard.specs.Answers.{claiming_is, half_before, counting_is, hearing_is, CountingFits, HearingFits};
 
-use cells::Height;
-use sites::{Altitude, Claimed, Site};
-use view::EpochId;
+use sites::Site;
 
 // What is kept around the site that a row claims: which site, how often it moved, whose positions each half of the cells counts.
 #[derive(Clone, Copy)]
 pub struct Heard {
-    pub site: Claimed,
+    pub site: Option<Site>,
     pub generation: u32,
-    pub even: EpochId,
-    pub odd: EpochId,
+    pub even: Option<u64>,
+    pub odd: Option<u64>,
 }
 
 // An aircraft's position, as a receiver reports it.
@@ -28,7 +26,7 @@ pub struct Heard {
 pub struct Position {
     pub lat: f64,
     pub lon: f64,
-    pub feet: Height,
+    pub feet: Option<i32>,
     pub address: u32,
     pub at_ms: u64,
 }
@@ -66,63 +64,45 @@ pub fn unheard() -> Heard
     ensures { result ≡ heard.unheard }
 {
     Heard {
-        site: Claimed::Nowhere,
+        site: None,
         generation: 0,
-        even: EpochId::Nothing,
-        odd: EpochId::Nothing,
+        even: None,
+        odd: None,
     }
 }
 
 // Question 2: the held site is within degrees.
-pub fn fits(site: Claimed) -> bool
+pub fn fits(site: Option<Site>) -> bool
     ensures { result ≡ heard.site_fits site }
 {
-    match site {
-        Claimed::At(s) => sites::in_degrees(s),
-        Claimed::Nowhere => true,
-    }
-}
-
-fn given(alt_m: Altitude, old: Altitude) -> Altitude
-    ensures { result ≡ heard.given alt_m old }
-{
-    match alt_m {
-        Altitude::Metres(_) => alt_m,
-        Altitude::Unknown => old,
-    }
+    let Some(s) = site else {
+        return true;
+    };
+    sites::in_degrees(s)
 }
 
 // The same place: only a given altitude changes.
 fn kept_site(h: Heard, old: Site, site: Site) -> Heard
     ensures { result ≡ heard.kept_site h old site }
 {
-    let even = h.even;
-    let odd = h.odd;
-    let before = old.alt_m;
-    let said = site.alt_m;
-    let alt_m = given(said, before);
-    let kept = Site {
-        lat: old.lat,
-        lon: old.lon,
-        alt_m: alt_m,
-    };
     Heard {
-        site: Claimed::At(kept),
-        generation: h.generation,
-        even: even,
-        odd: odd,
+        site: Some(Site {
+            alt_m: site.alt_m.or(old.alt_m),
+            ..old
+        }),
+        ..h
     }
 }
 
 // Another site, or none: what is kept starts over.
-fn moved_to(h: Heard, site: Claimed) -> Heard
+fn moved_to(h: Heard, site: Option<Site>) -> Heard
     ensures { result ≡ heard.moved_to h site }
 {
     Heard {
-        site: site,
-        generation: std::num::wrapping_add_u32(h.generation, 1),
-        even: EpochId::Nothing,
-        odd: EpochId::Nothing,
+        site,
+        generation: h.generation.wrapping_add(1),
+        even: None,
+        odd: None,
     }
 }
 
@@ -130,41 +110,39 @@ fn to_site(h: Heard, site: Site) -> Claiming
     requires { (heard.site_fits h.site ≡ true) × (held site ≡ true) }
     ensures { (l : List ℕ) → claiming_is result l ≡ heard.claimed_site h l site h.site }
 {
-    let kept = h.site;
-    match kept {
-        Claimed::At(old) => {
+    match h.site {
+        Some(old) => {
             if sites::same_place(old, site) {
                 return Claiming::Stayed(kept_site(h, old, site));
             }
-            Claiming::Moved(moved_to(h, Claimed::At(site)))
+            Claiming::Moved(moved_to(h, Some(site)))
         }
-        Claimed::Nowhere => Claiming::Moved(moved_to(h, Claimed::At(site))),
+        None => Claiming::Moved(moved_to(h, Some(site))),
     }
 }
 
 fn to_none(h: Heard) -> Claiming
     ensures { (l : List ℕ) → claiming_is result l ≡ heard.claimed_none h l h.site }
 {
-    let kept = h.site;
-    match kept {
-        Claimed::At(_) => Claiming::Moved(moved_to(h, Claimed::Nowhere)),
-        Claimed::Nowhere => Claiming::Stayed(h),
+    match h.site {
+        Some(_) => Claiming::Moved(moved_to(h, None)),
+        None => Claiming::Stayed(h),
     }
 }
 
 // The site claimed now: one more than a kilometre from the one kept for starts what is kept over.
-pub fn set_site(h: Heard, site: Claimed) -> Claiming
+pub fn set_site(h: Heard, site: Option<Site>) -> Claiming
     requires { heard.site_fits h.site ≡ true }
     ensures { (l : List ℕ) → claiming_is result l ≡ heard.claimed h l site }
 {
     match site {
-        Claimed::At(s) => {
+        Some(s) => {
             if sites::in_degrees(s) {
                 return to_site(h, s);
             }
             Claiming::Refused
         }
-        Claimed::Nowhere => to_none(h),
+        None => to_none(h),
     }
 }
 
@@ -174,7 +152,7 @@ fn is_even(id: u64) -> bool
     id % 2 == 0
 }
 
-fn held_id(even: bool, h: Heard) -> EpochId
+fn held_id(even: bool, h: Heard) -> Option<u64>
     ensures { result ≡ heard.held_id even h }
 {
     if even { h.even } else { h.odd }
@@ -183,40 +161,31 @@ fn held_id(even: bool, h: Heard) -> EpochId
 fn with_id(even: bool, id: u64, h: Heard) -> Heard
     ensures { result ≡ heard.with_id even id h }
 {
-    let site = h.site;
     if even {
-        let odd = h.odd;
-        return Heard {
-            site: site,
-            generation: h.generation,
-            even: EpochId::Id(id),
-            odd: odd,
-        };
-    }
-    let kept = h.even;
-    Heard {
-        site: site,
-        generation: h.generation,
-        even: kept,
-        odd: EpochId::Id(id),
+        Heard {
+            even: Some(id),
+            ..h
+        }
+    } else {
+        Heard { odd: Some(id), ..h }
     }
 }
 
-fn not_older(held: EpochId, id: u64) -> bool
+fn not_older(held: Option<u64>, id: u64) -> bool
     ensures { result ≡ heard.not_older held id }
 {
     match held {
-        EpochId::Id(n) => n <= id,
-        EpochId::Nothing => true,
+        Some(n) => n <= id,
+        None => true,
     }
 }
 
-fn is_newer(held: EpochId, id: u64) -> bool
+fn is_newer(held: Option<u64>, id: u64) -> bool
     ensures { result ≡ not (heard.holds_id held id) }
 {
     match held {
-        EpochId::Id(n) => n != id,
-        EpochId::Nothing => true,
+        Some(n) => n != id,
+        None => true,
     }
 }
 
@@ -235,13 +204,12 @@ fn heard_at(h: Heard, s: Site, p: Position) -> Hearing
     let even = is_even(id);
     let held = held_id(even, h);
     if not_older(held, id) {
-        let feet = p.feet;
         return Hearing::In(Counting {
             heard: with_id(even, id, h),
             newer: is_newer(held, id),
             start: start_of(even),
             place: sites::place_in(s, p.lat, p.lon),
-            low: cells::bucket(feet),
+            low: cells::bucket(p.feet),
             bit: cells::aircraft_bit(p.address),
         });
     }
@@ -254,10 +222,9 @@ pub fn hear(h: Heard, p: Position) -> Hearing
     ensures { ((l : List ℕ) → hearing_is result l ≡ heard.positioned h l p) × HearingFits result }
 {
     if measures::degrees::in_degrees(p.lat, p.lon) {
-        let site = h.site;
-        return match site {
-            Claimed::At(s) => heard_at(h, s, p),
-            Claimed::Nowhere => Hearing::Siteless,
+        return match h.site {
+            Some(s) => heard_at(h, s, p),
+            None => Hearing::Siteless,
         };
     }
     Hearing::Outside
@@ -268,12 +235,7 @@ pub fn empty(cells: &mut [u32], from: usize, n: usize)
     requires { from + n ≤ length cells.old }
     ensures { cells.new ≡ sets cells.old from (replicate n empty_word) }
 {
-    let blank = cells::empty_word();
-    let mut j: usize = 0;
-    while j < n {
-        cells[from + j] = blank;
-        j += 1;
-    }
+    cells[from..from + n].fill(cells::empty_word());
 }
 
 fn empty_half(cells: &mut [u32], c: Counting)

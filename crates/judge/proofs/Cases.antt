@@ -1,5 +1,6 @@
 -- 01's proved sheet, P10, and the case of its plausible error "Assuming NothingNear is far", as theorems about the definitions. In each row the
 -- even half alone is merged, at now_ms 0; few of its cells are occupied. Assumes nothing.
+use Rattle.std.specs.Prelude.{Some, None}
 use mathlib.Core.Path.{◌≡◌, refl, sym, ap, ◌∙◌}
 use mathlib.Core.Bool.{Bool, true, false, ◌||◌, cond}
 use mathlib.Core.List.{List, [], ◌∷◌}
@@ -10,17 +11,14 @@ use lib.Dec.{ltb, leb, eqb}
 use lib.ListN.{length, get_or, set, replicate, length-replicate, get_or-replicate, length-set}
 use lib.Seq.{get_or-set_same, get_or-set_other}
 use Rattle.angles.specs.Bearing.{sector}
-use Rattle.floats.specs.declared.horizon.Past.TheVariants.{No}
 use Rattle.cells.specs.Cells.{packed, empty_word, count_of, low_of, occupied_word}
 use Rattle.cells.specs.Passes.{pass, how_many, some, table}
 use Rattle.cells.proofs.Passes.{pass_all, table_same}
 use Rattle.cells.proofs.Words.{Parts, packed_parts, empty_fits}
 use Rattle.view.specs.View.{kept, merged_of, merged_at, grid_of, far_of}
-use Rattle.view.specs.declared.EpochId.TheVariants.{Id, Nothing}
 use Rattle.view.specs.declared.Far.{Far}
 use Rattle.view.proofs.Views.{grid_at, bins_at, even_alone}
 use Rattle.sites.specs.declared.Site.{Site}
-use Rattle.sites.specs.declared.Claimed.TheVariants.{At}
 use Rattle.past_horizon.specs.Horizon.{past_horizon}
 use Rattle.plane.specs.Plane.{square}
 use Rattle.around.specs.Marks.{in_sector, sectors_in, cell_in, bin_in, outside_of}
@@ -28,7 +26,6 @@ use Rattle.near_field.specs.declared.Judgment.TheVariants.{Unjudged, Wrong}
 use Rattle.near_field.specs.declared.Evidence.TheVariants.{NothingNear}
 use Rattle.nearest.specs.Nothing.{cell_place, bin_place, heard, places_heard, places, nothing_near}
 use Rattle.nearest.proofs.Cases.{p10_off, p10_few, nearest_skipped as places_skipped}
-use Rattle.nearest.specs.declared.Empty.TheVariants.{Off, Heard}
 use Rattle.judge.specs.Judging.{if_outside, judge_cells, judge_row, judge_of}
 use Rattle.judge.proofs.Few.{pass_one, pass_two, skip_place, skip_count, none_past, low_free}
 use Rattle.judge.proofs.Unheard.{none_heard}
@@ -111,14 +108,14 @@ unfolding sectors_in table pass
 two_sectors = refl
 
 -- ---- from the parts to the judgment
-module _ (site : Site) (grid : List ℕ) (far : Far) (eo : outside_of grid far.cells ≡ true) (ep : No ≡ past_horizon site far) where
-  to_off : (d : ℕ) → nothing_near grid far ≡ Off d → Wrong d NothingNear ≡ judge_cells site grid far
+module _ (site : Site) (grid : List ℕ) (far : Far) (eo : outside_of grid far.cells ≡ true) (ep : None ≡ past_horizon site far) where
+  to_off : (d : ℕ) → nothing_near grid far ≡ Some d → Wrong d NothingNear ≡ judge_cells site grid far
   unfolding if_outside
-  to_off d e = by_none site grid far No (Off d) true (sym eo) (sym e) ep (Wrong d NothingNear) refl (after_off (Off d) grid far true d refl)
+  to_off d e = by_none site grid far None (Some d) true (sym eo) (sym e) ep (Wrong d NothingNear) refl (after_off (Some d) grid far true d refl)
 
-  to_few : (n : ℕ) → nothing_near grid far ≡ Heard → n ≡ places grid far → n < 12 → Unjudged ≡ judge_cells site grid far
+  to_few : (n : ℕ) → nothing_near grid far ≡ None → n ≡ places grid far → n < 12 → Unjudged ≡ judge_cells site grid far
   unfolding if_outside
-  to_few n e p l = by_none site grid far No Heard true (sym eo) (sym e) ep Unjudged refl (after_few Heard grid far true n refl p l)
+  to_few n e p l = by_none site grid far None None true (sym eo) (sym e) ep Unjudged refl (after_few None grid far true n refl p l)
 
 -- ---- P10: bin 0 only
 unfoldable pub row_p10 : ℕ → ℕ → List ℕ
@@ -168,11 +165,11 @@ module _ (n bits : ℕ) (few : suc n ≤ 255) (fit : bits < 2 ^ 16) where
       (table_same (λ (k : ℕ). some (cell_in grid10 k) 1600 || some (bin_in far10.cells k) 72) in_one 8
       (λ k l. rw (no_cells_lem k, bin_sector far10 (heard_word (suc n) bits) n bin_here (word (suc n) bits few fit).count (word (suc n) bits few fit).low bin_free k))) one_sector
 
-  past10 : (site : Site) → No ≡ past_horizon site far10
+  past10 : (site : Site) → None ≡ past_horizon site far10
   past10 site = none_past site far10 (bin_low far10 (heard_word (suc n) bits) n bin_here (word (suc n) bits few fit).count (word (suc n) bits few fit).low bin_free)
 
 -- 60 positions, no altitude, bin 0 only, 15 aircraft: Wrong 125, NothingNear
-pub p10 : (site : Site) (bits : ℕ) → bits < 2 ^ 16 → judge_of (At site) (Id 0) Nothing (row_p10 60 bits) 0 15 ≡ Wrong 125 NothingNear
+pub p10 : (site : Site) (bits : ℕ) → bits < 2 ^ 16 → judge_of (Some site) (Some 0) None (row_p10 60 bits) 0 15 ≡ Wrong 125 NothingNear
 unfolding judge_of judge_row kept
 p10 site bits b =
     let l : 60 ≤ 255 = omega arith in
@@ -180,7 +177,7 @@ p10 site bits b =
     (p10_off (grid10 59 bits l b) (far10 59 bits l b) (places10 59 bits l b) (count10 59 bits l b)))
 
 -- 59: Unjudged
-pub p10_59 : (site : Site) (bits : ℕ) → bits < 2 ^ 16 → judge_of (At site) (Id 0) Nothing (row_p10 59 bits) 0 15 ≡ Unjudged
+pub p10_59 : (site : Site) (bits : ℕ) → bits < 2 ^ 16 → judge_of (Some site) (Some 0) None (row_p10 59 bits) 0 15 ≡ Unjudged
 unfolding judge_of judge_row kept places
 p10_59 site bits b =
     let l : 59 ≤ 255 = omega arith in
@@ -188,7 +185,7 @@ p10_59 site bits b =
     (p10_few (grid10 58 bits l b) (far10 58 bits l b) (places10 58 bits l b) (count10 58 bits l b)) (ap length (sym (places10 58 bits l b))) (omega arith))
 
 -- or 14 aircraft: Unjudged
-pub p10_14 : (site : Site) (bits : ℕ) → judge_of (At site) (Id 0) Nothing (row_p10 60 bits) 0 14 ≡ Unjudged
+pub p10_14 : (site : Site) (bits : ℕ) → judge_of (Some site) (Some 0) None (row_p10 60 bits) 0 14 ≡ Unjudged
 unfolding judge_of
 p10_14 site bits = refl
 
@@ -273,7 +270,7 @@ module _ (bits : ℕ) (fit : bits < 2 ^ 16) where
   unfolding places_heard
   places_near = rw (cells_heard, bin_heard far_n one 0 far_here count_one (word 1 bits (omega arith) fit).low far_free)
 
-  off_125 : nothing_near grid_n far_n ≡ Off 125
+  off_125 : nothing_near grid_n far_n ≡ Some 125
   off_125 =
       places_skipped grid_n far_n places_near (ap count_of near_820 ∙ count_most) (ap count_of near_860 ∙ count_one) (ap count_of far_here ∙ count_one)
 
@@ -291,7 +288,7 @@ module _ (bits : ℕ) (fit : bits < 2 ^ 16) where
       (table_same (λ (k : ℕ). some (cell_in grid_n k) 1600 || some (bin_in far_n.cells k) 72) in_two 8
       (λ k l. rw (cell_sectors k, bin_sector far_n one 0 far_here count_one (word 1 bits (omega arith) fit).low far_free k))) two_sectors
 
-pub nearest_skipped : (site : Site) (bits : ℕ) → bits < 2 ^ 16 → judge_of (At site) (Id 0) Nothing (row_near bits) 0 15 ≡ Wrong 125 NothingNear
+pub nearest_skipped : (site : Site) (bits : ℕ) → bits < 2 ^ 16 → judge_of (Some site) (Some 0) None (row_near bits) 0 15 ≡ Wrong 125 NothingNear
 unfolding judge_of judge_row kept
 nearest_skipped site bits b =
     sym (to_off site (grid_n bits b) (far_n bits b) (outside_near bits b)

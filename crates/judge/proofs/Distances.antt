@@ -1,5 +1,6 @@
 -- Every distance that a judging says is a step of 5 from 5 to 800: a nothing-near distance and a near field's are said in whole
 -- steps, and an excess of at most 800 km too. Assumes nothing.
+use Rattle.std.specs.Prelude.{Some, None, Option}
 use mathlib.Core.Path.{◌≡◌, refl, subst}
 use mathlib.Core.Bool.{Bool, true, false, not, ◌||◌, cond}
 use mathlib.Core.List.{List}
@@ -8,15 +9,10 @@ use native.Mathlib.Omega.{arith}
 use lib.Dec.{T, ltb, leb, eqb}
 use lib.Ieee.{Float}
 use Rattle.measures.specs.Steps.{distance}
-use Rattle.floats.specs.declared.horizon.Past.{Past}
-use Rattle.floats.specs.declared.horizon.Past.TheVariants.{By, No}
 use Rattle.measures.proofs.Quotient.{off_step as excess_step}
 use Rattle.view.specs.View.{kept, grid_of, far_of}
-use Rattle.view.specs.declared.EpochId.{EpochId}
 use Rattle.view.specs.declared.Far.{Far}
 use Rattle.sites.specs.declared.Site.{Site}
-use Rattle.sites.specs.declared.Claimed.{Claimed}
-use Rattle.sites.specs.declared.Claimed.TheVariants.{At, Nowhere}
 use Rattle.past_horizon.specs.Horizon.{past_horizon}
 use Rattle.past_horizon.proofs.Range.{past_distance}
 use Rattle.plane.specs.Plane.{square}
@@ -27,8 +23,6 @@ use Rattle.near_field.specs.declared.Judgment.TheVariants.{Unjudged, Fits, Wrong
 use Rattle.near_field.specs.declared.Evidence.{Evidence}
 use Rattle.near_field.specs.declared.Evidence.TheVariants.{NearField}
 use Rattle.nearest.specs.Nothing.{places, nothing_near}
-use Rattle.nearest.specs.declared.Empty.{Empty}
-use Rattle.nearest.specs.declared.Empty.TheVariants.{Off, Heard}
 use Rattle.plane.proofs.Squares.{said_step}
 use Rattle.nearest.proofs.Said.{off_step}
 use Rattle.judge.specs.Judging.{if_outside, horizon_off, after_horizon, by_horizon, judge_cells, judge_row, judge_of, Step}
@@ -67,29 +61,29 @@ near_said grid out =
     (either_said (eqb s 4 || not out) unjudged (either_said (no_hole grid) unjudged (best_said 1 grid (best_of grid 1600))))
 
 -- ---- nothing near, and the horizon
-abbrev OffStep : Empty → Type 0
-OffStep e = (d : ℕ) → e ≡ Off d → Step d
+abbrev OffStep : Option ℕ → Type 0
+OffStep e = (d : ℕ) → e ≡ Some d → Step d
 
 empty_said : (grid : List ℕ) (far : Far) (out : Bool) → OffStep (if_outside out (nothing_near grid far))
 unfolding if_outside
 empty_said grid far true d e = as_step (off_step grid far d e)
 empty_said grid far false d e = let z : ◌≡◌ {A = ℕ} 0 1 = cc in absurd (omega arith)
 
-off_said : (e : Empty) (x : Float) → OffStep e → T (distance x) → Step (horizon_off e x)
+off_said : (e : Option ℕ) (x : Float) → OffStep e → T (distance x) → Step (horizon_off e x)
 unfolding horizon_off
-off_said (Off km) x s h = s km refl
-off_said Heard x s h = as_step (excess_step x h)
+off_said (Some km) x s h = s km refl
+off_said None x s h = as_step (excess_step x h)
 
 -- ---- joined in the judging's order
-after_said : (e : Empty) (grid : List ℕ) (far : Far) (out : Bool) → OffStep e → Said (after_horizon e grid far out)
+after_said : (e : Option ℕ) (grid : List ℕ) (far : Far) (out : Bool) → OffStep e → Said (after_horizon e grid far out)
 unfolding after_horizon
-after_said (Off km) grid far out s = wrong (s km refl)
-after_said Heard grid far out s = either_said (ltb (places grid far) 12) unjudged (near_said grid out)
+after_said (Some km) grid far out s = wrong (s km refl)
+after_said None grid far out s = either_said (ltb (places grid far) 12) unjudged (near_said grid out)
 
-by_said : (p : Past) (e : Empty) (grid : List ℕ) (far : Far) (out : Bool) → ((x : Float) → p ≡ By x → T (distance x)) → OffStep e → Said (by_horizon p e grid far out)
+by_said : (p : Option Float) (e : Option ℕ) (grid : List ℕ) (far : Far) (out : Bool) → ((x : Float) → p ≡ Some x → T (distance x)) → OffStep e → Said (by_horizon p e grid far out)
 unfolding by_horizon
-by_said (By x) e grid far out h s = wrong (off_said e x s (h x refl))
-by_said No e grid far out h s = after_said e grid far out s
+by_said (Some x) e grid far out h s = wrong (off_said e x s (h x refl))
+by_said None e grid far out h s = after_said e grid far out s
 
 cells_said : (site : Site) (grid : List ℕ) (far : Far) → Said (judge_cells site grid far)
 unfolding judge_cells
@@ -97,17 +91,17 @@ cells_said site grid far =
     let out = outside_of grid far.cells in
     by_said (past_horizon site far) (if_outside out (nothing_near grid far)) grid far out (λ x h. past_distance site far x h) (empty_said grid far out)
 
-of_said : (site : Claimed) (even odd : EpochId) (cells : List ℕ) (now aircraft : ℕ) → Said (judge_of site even odd cells now aircraft)
+of_said : (site : Option Site) (even odd : Option ℕ) (cells : List ℕ) (now aircraft : ℕ) → Said (judge_of site even odd cells now aircraft)
 unfolding judge_of judge_row
-of_said (At s) even odd cells now aircraft =
+of_said (Some s) even odd cells now aircraft =
     either_said (ltb aircraft 15) unjudged (cells_said s (grid_of cells (kept even now) (kept odd now)) (far_of cells (kept even now) (kept odd now)))
-of_said Nowhere even odd cells now aircraft = unjudged
+of_said None even odd cells now aircraft = unjudged
 
 -- the distance of an answer that is a Wrong
 taken : {off : ℕ} {by : Evidence} → Said (Wrong off by) → Step off
 taken (wrong s) = s
 
 pub judge_distance :
-    (site : Claimed) (even odd : EpochId) (cells : List ℕ) (now aircraft off : ℕ) (by : Evidence)
+    (site : Option Site) (even odd : Option ℕ) (cells : List ℕ) (now aircraft off : ℕ) (by : Evidence)
     → judge_of site even odd cells now aircraft ≡ Wrong off by → Step off
 judge_distance site even odd cells now aircraft off by e = taken (subst Said e (of_said site even odd cells now aircraft))

@@ -1,4 +1,5 @@
 -- Words of which few are occupied: what the passes over them give. Assumes nothing.
+use Rattle.std.specs.Prelude.{None, Option}
 use mathlib.Core.Path.{◌≡◌, refl, ap, ◌∙◌}
 use mathlib.Core.Bool.{Bool, true, false, ◌&&◌, cond}
 use mathlib.Core.List.{List, [], ◌∷◌, ◌++◌}
@@ -6,7 +7,6 @@ use Prim.Native.Nat.{ℕ, ◌+◌, ◌<◌}
 use native.Mathlib.Omega.{arith}
 use lib.Ieee.{Float}
 use lib.ListN.{get_or}
-use Rattle.floats.specs.declared.horizon.Past.TheVariants.{No}
 use Rattle.cells.specs.Cells.{empty_word, low_of, occupied_word, ceiling}
 use Rattle.cells.specs.Passes.{pass}
 use Rattle.cells.proofs.Passes.{pass_next, pass_skip, pass_all}
@@ -44,15 +44,15 @@ pub skip_count : (w : ℕ) (b : Bool) → w ≡ empty_word → (x : ℕ) → con
 skip_count w b e x = rw (empty_free w e)
 
 -- ---- bins without altitude: none is past the horizon
-no_choice : (b : Bool) → cond b No No ≡ No
+no_choice : (b : Bool) → ◌≡◌ {A = Option Float} (cond b None None) None
 no_choice true = refl
 no_choice false = refl
 
-not_past : (w j : ℕ) (a : Float) → low_of w ≡ 255 → bin_past w j a ≡ No
+not_past : (w j : ℕ) (a : Float) → low_of w ≡ 255 → bin_past w j a ≡ None
 unfolding bin_past under_ceiling ceiling
 not_past w j a e = rw e (no_choice (occupied_word w))
 
-pub none_past : (site : Site) (far : Far) → ((j : ℕ) → j < 72 → low_of (get_or far.cells j 0) ≡ 255) → No ≡ past_horizon site far
+pub none_past : (site : Site) (far : Far) → ((j : ℕ) → j < 72 → low_of (get_or far.cells j 0) ≡ 255) → None ≡ past_horizon site far
 unfolding past_horizon horizon_past enough_past excesses
 none_past site far h =
     rw (pass_all (λ (j : ℕ). with_excess (bin_past (get_or far.cells j 0) j (antenna site))) [] 72 (λ j l x. rw (not_past (get_or far.cells j 0) j (antenna site) (h j l))))

@@ -1,5 +1,6 @@
 -- Where no half is merged, every cell and bin is empty: nothing is past the horizon, nothing was heard, and no place is left. So the
 -- answer is Unjudged, by 4. Assumes nothing.
+use Rattle.std.specs.Prelude.{None}
 use mathlib.Core.Path.{◌≡◌, refl, sym, ap, ◌∙◌}
 use mathlib.Core.Bool.{Bool, true, false, ◌||◌}
 use mathlib.Core.List.{List, []}
@@ -8,7 +9,6 @@ use native.Mathlib.Omega.{arith}
 use lib.ListN.{get_or}
 use Rattle.cells.specs.Cells.{empty_word}
 use Rattle.cells.proofs.Passes.{pass_all}
-use Rattle.floats.specs.declared.horizon.Past.TheVariants.{No}
 use Rattle.view.specs.View.{merged_at, grid_of, far_of}
 use Rattle.view.specs.declared.Far.{Far}
 use Rattle.view.proofs.Views.{grid_at, bins_at, neither}
@@ -17,7 +17,6 @@ use Rattle.around.specs.Marks.{outside_of}
 use Rattle.near_field.specs.declared.Judgment.TheVariants.{Unjudged}
 use Rattle.nearest.specs.Nothing.{Place, cell_place, bin_place, heard, places_heard, places, positions_in, nothing_near_in, nothing_near}
 use Rattle.nearest.specs.Weights.{total}
-use Rattle.nearest.specs.declared.Empty.TheVariants.{Heard}
 use Rattle.judge.specs.Judging.{if_outside, judge_cells, judge_row}
 use Rattle.judge.proofs.Few.{skip_place, none_past, low_free}
 use Rattle.judge.proofs.Ways.{after_few, by_none}
@@ -35,7 +34,7 @@ module _
   unfolding places_heard
   no_places = rw (none_heard (cell_place grid) grid 1600 grid_free, none_heard (bin_place far.cells) far.cells 72 bins_free)
 
-  heard_all : nothing_near grid far ≡ Heard
+  heard_all : nothing_near grid far ≡ None
   unfolding nothing_near nothing_near_in positions_in total
   heard_all = rw no_places
 
@@ -43,16 +42,16 @@ module _
   unfolding places
   no_place_lem = rw no_places
 
-  none_outside : (b : Bool) → if_outside b Heard ≡ Heard
+  none_outside : (b : Bool) → if_outside b None ≡ None
   unfolding if_outside
   none_outside true = refl
   none_outside false = refl
 
   pub unheard : Unjudged ≡ judge_cells site grid far
   unheard =
-      by_none site grid far No Heard (outside_of grid far.cells) refl
+      by_none site grid far None None (outside_of grid far.cells) refl
       (sym (none_outside (outside_of grid far.cells)) ∙ ap (if_outside (outside_of grid far.cells)) (sym heard_all)) (none_past site far (λ j l. low_free (get_or far.cells j 0) (bins_free j l))) Unjudged refl
-      (after_few Heard grid far (outside_of grid far.cells) 0 refl (sym no_place_lem) (omega arith))
+      (after_few None grid far (outside_of grid far.cells) 0 refl (sym no_place_lem) (omega arith))
 
 -- ---- neither half
 module _ (cells : List ℕ) where

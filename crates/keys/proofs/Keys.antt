@@ -1,38 +1,27 @@
 -- Keys: one turn of each loop over the digits, and the ways out.
+use Rattle.std.specs.Prelude.{Some, None}
 use mathlib.Core.Path.{◌≡◌, refl, sym, ap, ◌∙◌}
 use mathlib.Core.Bool.{Bool, true, false, ◌&&◌}
 use mathlib.Core.List.{List}
 use Prim.Native.Nat.{ℕ, ◌+◌, ◌-◌, ◌*◌, ◌%◌, ◌≤◌, ◌<◌}
 use native.Mathlib.Numerals.{add-one}
 use native.Mathlib.Omega.{arith}
-use borrow.Author.Tests.{lt-ltb, le-ltb, le-leb, lt-leb, leb-true}
+use borrow.Author.Tests.{lt-ltb, le-ltb, leb-true}
 use lib.Dec.{ltb, leb}
-use lib.ListN.{length, get_or, take, drop, set, replicate}
+use Rattle.std.proofs.lemmas.List.{drop_more}
+use lib.ListN.{drop_of_length-le, length, get_or, take, drop, set}
 use lib.Seq.{take-suc-set, take_all}
 use Rattle.numbers.specs.Numbers.{digit_of, all_digits}
 use Rattle.keys.specs.Keys.{is_key, hex_at, key_byte, key_bytes, key_of}
-use Rattle.fields.proofs.Lines.{walk, walked}
 
 -- ---- the digits
 pub hex_stop : (s : List ℕ) (i : ℕ) → i < length s → 15 < digit_of (get_or s i 0) → all_digits 16 s ≡ all_digits 16 (drop i s) → false ≡ all_digits 16 s
 unfolding all_digits
-hex_stop s i h d e = sym (e ∙ rw (walk s i h) (rw (le-ltb (digit_of (get_or s i 0)) 16 (omega arith))))
+hex_stop s i h d e = sym (e ∙ rw (drop_more s i 0 h) (rw (le-ltb (digit_of (get_or s i 0)) 16 (omega arith))))
 
 pub hex_end : (s : List ℕ) (i : ℕ) → length s ≤ i → all_digits 16 s ≡ all_digits 16 (drop i s) → true ≡ all_digits 16 s
 unfolding all_digits
-hex_end s i h e = sym (e ∙ rw (walked s i h))
-
-pub key_none : (s : List ℕ) → length s ≡ 0 → false ≡ is_key s
-unfolding is_key
-key_none s e = rw (le-ltb 0 (length s) (omega arith))
-
-pub key_long : (s : List ℕ) → (length s ≡ 0 → ⊥) → 64 < length s → false ≡ is_key s
-unfolding is_key
-key_long s n l = rw (lt-ltb 0 (length s) (omega arith), lt-leb (length s) 64 l)
-
-pub key_hex : (s : List ℕ) (r : Bool) → (length s ≡ 0 → ⊥) → length s ≤ 64 → r ≡ all_digits 16 s → r ≡ is_key s
-unfolding is_key
-key_hex s r n l e = rw (lt-ltb 0 (length s) (omega arith), le-leb (length s) 64 l) e
+hex_end s i h e = sym (e ∙ rw (drop_of_length-le s h))
 
 key_length : (s : List ℕ) → is_key s ≡ true → length s ≤ 64
 unfolding is_key
@@ -68,10 +57,10 @@ byte_is s i a b e f = rw (e, f)
 pub key_length_by : (s : List ℕ) (t : Bool) → t ≡ is_key s → t ≡ true → length s ≤ 64
 key_length_by s t e g = key_length s (sym e ∙ g)
 
-pub key_read : (s ys : List ℕ) (t : Bool) → t ≡ is_key s → t ≡ true → ys ≡ key_bytes s 32 → record { good = true; bytes = ys } ≡ key_of s
+pub key_read : (s ys : List ℕ) (t : Bool) → t ≡ is_key s → t ≡ true → ys ≡ key_bytes s 32 → Some ys ≡ key_of s
 unfolding key_of
 key_read s ys t g h e = rw (sym g ∙ h, e)
 
-pub key_bad : (s : List ℕ) (t : Bool) → t ≡ is_key s → t ≡ false → record { good = false; bytes = replicate 32 0 } ≡ key_of s
+pub key_bad : (s : List ℕ) (t : Bool) → t ≡ is_key s → t ≡ false → None ≡ key_of s
 unfolding key_of
 key_bad s t g h = rw (sym g ∙ h)

@@ -1,7 +1,6 @@
 -- Keys as a list of calls writes them. Definitions only.
-use Rattle.std.specs.Prelude.{ℕ, zero, suc, ◌+◌, ◌-◌, ◌*◌, ◌%◌, Bool, true, false, ◌&&◌, cond, List, [], ◌∷◌, ◌++◌, length, get_or, replicate, leb, ltb}
+use Rattle.std.specs.Prelude.{ℕ, zero, suc, ◌+◌, ◌-◌, ◌*◌, ◌%◌, Bool, ◌&&◌, cond, List, [], ◌∷◌, ◌++◌, length, get_or, leb, ltb, Some, None, Option}
 use Rattle.numbers.specs.Numbers.{digit_of, all_digits}
-use Rattle.keys.specs.declared.Key.{Key}
 
 -- KEY: 64 hex digits, or fewer, then zeros are put in front
 unfoldable pub is_key : List ℕ → Bool
@@ -23,6 +22,6 @@ unfolding key_byte
 key_bytes s zero = []
 key_bytes s (suc n) = key_bytes s n ++ (key_byte s n ∷ [])
 
-unfoldable pub key_of : List ℕ → Key
+unfoldable pub key_of : List ℕ → Option (List ℕ)
 unfolding is_key key_bytes
-key_of s = cond (is_key s) (record { good = true; bytes = key_bytes s 32 }) (record { good = false; bytes = replicate 32 0 })
+key_of s = cond (is_key s) (Some (key_bytes s 32)) None

@@ -7,45 +7,29 @@ ghost use Rattle.keys.specs.Keys.{is_key, hex_at, key_byte, key_bytes, key_of};
 
 use numbers::digit;
 
-#[derive(Clone, Copy)]
-pub struct Key {
-    pub good: bool,
-    pub bytes: [u8; 32],
-}
-
 fn all_hex(s: &[u8]) -> bool
     ensures { result ≡ all_digits 16 s.now }
 {
-    let mut i = 0;
-    while i < s.len() {
-        let d = digit(s[i]);
-        if d > 15 {
+    for &c in s {
+        if digit(c) > 15 {
             return false;
         }
-        i += 1;
     }
     true
 }
 
 // Whether these are the digits of a key.
-#[tactic(auto, using(crate::proofs::Keys::key_none, crate::proofs::Keys::key_long, crate::proofs::Keys::key_hex))]
+#[tactic(auto, unfolding(crate::specs::Keys::is_key))]
 fn is_key(s: &[u8]) -> bool
     ensures { result ≡ is_key s.now }
 {
-    if s.len() == 0 {
-        return false;
-    }
-    if s.len() > 64 {
-        return false;
-    }
-    all_hex(s)
+    !s.is_empty() && s.len() <= 64 && all_hex(s)
 }
 
 fn low(c: u8) -> u8
     ensures { (result ≡ digit_of c % 16) × (result < 16) }
 {
-    let d = digit(c) % 16;
-    d as u8
+    (digit(c) % 16) as u8
 }
 
 // Digit k of a key's 64.
@@ -58,8 +42,7 @@ fn hex_at(s: &[u8], k: usize) -> u8
     if k < lead {
         return 0;
     }
-    let j = k - lead;
-    low(s[j])
+    low(s[k - lead])
 }
 
 #[tactic(auto, using(crate::proofs::Keys::byte_is))]
@@ -77,23 +60,16 @@ fn key_bytes(s: &[u8]) -> [u8; 32]
     ensures { result ≡ key_bytes s.now 32 }
 {
     let mut out = [0u8; 32];
-    let mut i = 0;
-    while i < 32 {
-        out[i] = key_byte(s, i);
-        i += 1;
+    for (i, byte) in out.iter_mut().enumerate() {
+        *byte = key_byte(s, i);
     }
     out
 }
 
 // A key of up to 64 hex digits.
 #[tactic(auto, using(crate::proofs::Keys::key_length_by, crate::proofs::Keys::key_read, crate::proofs::Keys::key_bad))]
-pub fn read_key(s: &[u8]) -> Key
+pub fn read_key(s: &[u8]) -> Option<[u8; 32]>
     ensures { result ≡ key_of s.now }
 {
-    if is_key(s) {
-        let bytes = key_bytes(s);
-        return Key { good: true, bytes };
-    }
-    let bytes = [0u8; 32];
-    Key { good: false, bytes }
+    if is_key(s) { Some(key_bytes(s)) } else { None }
 }

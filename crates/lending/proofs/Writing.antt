@@ -1,5 +1,5 @@
 -- The lines that write a watch: what lies behind its rows and cells stays, and a watch of a new size stays within what is lent.
-use Rattle.std.proofs.Common.{◌≡◌, ℕ, zero, suc, ◌+◌, ◌*◌, ◌<◌, ◌≤◌, Bool, true, false, cond, leb, List, [], ◌∷◌, ◌++◌, length, drop, set, replicate, sym, refl, ap, ◌∙◌, zero-add, add-one, arith, leb-true}
+use Rattle.std.proofs.Common.{◌≡◌, ℕ, zero, suc, ◌+◌, ◌*◌, ◌<◌, ◌≤◌, Bool, true, false, cond, leb, List, [], ◌∷◌, ◌++◌, length, drop, set, replicate, sym, refl, ap, ◌∙◌, zero-add, add-one, arith, leb-true, Result, Ok, Err}
 use lib.ListN.{length-replicate}
 use lib.Seq.{sets, sets-eq}
 use Rattle.table.specs.Machine as M
@@ -7,12 +7,10 @@ use Rattle.cells.specs.Cells.{empty_word}
 use Rattle.rows.specs.declared.Row.{Row}
 use Rattle.rows.specs.Links.{blank}
 use Rattle.lending.specs.declared.Size.{Size}
-use Rattle.lending.specs.declared.Outcome.{Outcome}
-use Rattle.lending.specs.declared.Outcome.TheVariants.{Done, Wrong}
-use Rattle.lending.specs.declared.Change.{Change}
-use Rattle.lending.specs.declared.Change.TheVariants as change
-use Rattle.lending.specs.declared.Changed.{Changed}
-use Rattle.lending.specs.Lendings.{Within, Room, RowsBecome, no_ends, lendable, lent_size, Lent, row_there, RowSet, cell_there, CellSet, EndsSet, AppliedBy}
+use Rattle.grammar.specs.declared.Change.{Change}
+use Rattle.grammar.specs.declared.Change.TheVariants as change
+use Rattle.lending.specs.Lendings.{Within, Room, RowsBecome, no_ends, lendable, Lent, RowSet, CellSet, AppliedBy, Applied}
+use Rattle.receiver.specs.declared.Part.{Part}
 use Rattle.readers.specs.declared.Fault.{Fault}
 use Rattle.readers.specs.declared.Fault.TheVariants as fault
 
@@ -35,43 +33,58 @@ emptied_first ys zs n h e =
     ∙ ap (λ (k : ℕ). replicate n empty_word ++ drop k ys) (zero-add (length (replicate n empty_word)) ∙ length-replicate n empty_word)
 
 -- LEND
-lend_tests : (c n : ℕ) (s t : Bool) → leb c 64 ≡ s → leb n 214016 ≡ t → Done ≡ cond s (cond t Done (Wrong fault.TooManyCells)) (Wrong fault.TooManyRows) → (c ≤ 64) × (n ≤ 214016)
-lend_tests c n true true e f h = (leb-true c 64 e, leb-true n 214016 f)
-lend_tests c n true false e f h = let z : ◌≡◌ {A = ℕ} 0 1 = cc in absurd (omega arith)
-lend_tests c n false t e f h = let z : ◌≡◌ {A = ℕ} 0 1 = cc in absurd (omega arith)
+module _ (c n : ℕ) where
+  lent_size_few : (z : Size) → ◌≡◌ {A = Result Size Fault} (Ok z) (lendable c n) → (z.rows ≤ 64) × (z.cells ≤ 214016)
+  unfolding lendable
+  lent_size_few z h = by (leb c 64) (leb n 214016) refl refl h where
+    by : (s t : Bool) → leb c 64 ≡ s → leb n 214016 ≡ t → ◌≡◌ {A = Result Size Fault} (Ok z) (cond s (cond t (Ok (record { rows = c; cells = n })) (Err fault.TooManyCells)) (Err fault.TooManyRows)) → (z.rows ≤ 64) × (z.cells ≤ 214016)
+    by true true e f k = let same : z ≡ record { rows = c; cells = n } = cc in rw same (leb-true c 64 e, leb-true n 214016 f)
+    by true false e f k = cc
+    by false t e f k = cc
 
-pub lend_fits : (c n : ℕ) (o : Outcome) → o ≡ lendable c n → o ≡ Done → (c ≤ 64) × (n ≤ 214016)
-unfolding lendable
-lend_fits c n o e f = lend_tests c n (leb c 64) (leb n 214016) refl refl (sym f ∙ e)
+  module _ (o : Result Size Fault) (e : o ≡ lendable c n) (z : Size) (f : o ≡ Ok z) where
+    few : (z.rows ≤ 64) × (z.cells ≤ 214016)
+    few = lent_size_few z (sym f ∙ e)
 
-pub rows_fit : (c n : ℕ) (o : Outcome) (xs : List ℕ) → o ≡ lendable c n → o ≡ Done → 1600 ≤ length xs → 25 * c ≤ length xs
-rows_fit c n o xs e f h = let k = (lend_fits c n o e f).0 in omega arith
+    pub rows_fit : (xs : List ℕ) → 1600 ≤ length xs → 25 * z.rows ≤ length xs
+    rows_fit xs h = let k = few.0 in omega arith
 
-pub cells_fit : (c n : ℕ) (o : Outcome) (ys : List ℕ) → o ≡ lendable c n → o ≡ Done → 214016 ≤ length ys → n ≤ length ys
-cells_fit c n o ys e f h = let k = (lend_fits c n o e f).1 in omega arith
+    pub cells_fit : (ys : List ℕ) → 214016 ≤ length ys → z.cells ≤ length ys
+    cells_fit ys h = let k = few.1 in omega arith
 
-module _ (c n : ℕ) (z : Size) (o : Outcome) (xs ys ws : List ℕ) (r : Changed) (e : o ≡ lendable c n) where
-  pub lent_not : (f : Fault) → o ≡ Wrong f → r ≡ record { outcome = o; size = z } → Lent c n z xs ys ws xs ys ws r
+    pub lent_is : (xs ys ws xs' ys' ws' : List ℕ) → RowsBecome z.rows (replicate z.rows blank) xs xs' → ys' ≡ replicate z.cells empty_word ++ drop z.cells ys → ws' ≡ no_ends → Lent c n xs ys ws xs' ys' ws' (Ok z)
+    unfolding Lent
+    lent_is xs ys ws xs' ys' ws' h i j = (sym f ∙ e, (h, i, j))
+
+  pub lent_not : (o : Result Size Fault) (f : Fault) (xs ys ws : List ℕ) → o ≡ lendable c n → o ≡ Err f → Lent c n xs ys ws xs ys ws (Err f)
   unfolding Lent
-  lent_not f g h = rw (← e, g) (h ∙ ap (λ (u : Outcome). record { outcome = u; size = z }) g, (refl, refl, refl))
+  lent_not o f xs ys ws e g = (sym g ∙ e, (refl, refl, refl))
 
-  pub lent_is : (xs' ys' ws' : List ℕ) → o ≡ Done → RowsBecome c (replicate c blank) xs xs' → ys' ≡ replicate n empty_word ++ drop n ys → ws' ≡ no_ends
-      → r ≡ record { outcome = o; size = record { rows = c; cells = n } } → Lent c n z xs ys ws xs' ys' ws' r
+-- the watch that is lent lies within what is lent
+pub lent_within : (c n : ℕ) (o : Result Size Fault) (z : Size) (xs ys ws xs' ys' ws' : List ℕ) → Lent c n xs ys ws xs' ys' ws' o → o ≡ Ok z → Room xs ys → length xs' ≡ length xs → length ys' ≡ length ys → Within z xs' ys'
+unfolding Lent
+lent_within c n o z xs ys ws xs' ys' ws' h f room lx ly =
+    let k = lent_size_few c n z (sym f ∙ h.0) in (omega (arith, k.0, room.0), omega (arith, k.1, room.1))
+
+-- ONE OF THE FOUR LINES
+module _ (m : Change) (key : M.Key) (z : Size) (xs ys ws xs' ys' ws' : List ℕ) where
+  applied_is : (a : Change) (z' : Size) (r : Result (Unit {0}) Fault) → m ≡ a → AppliedBy a key z xs ys ws z' xs' ys' ws' r → Applied m key z xs ys ws z' xs' ys' ws' r
+  unfolding Applied
+  applied_is a z' r e h = rw e h
+
+  pub applied_lent : (c n : ℕ) (o : Result Size Fault) (y : Size) → m ≡ change.Lend c n → Lent c n xs ys ws xs' ys' ws' o → o ≡ Ok y → Applied m key z xs ys ws y xs' ys' ws' (Ok tt)
   unfolding Lent
-  lent_is xs' ys' ws' g h i j k = rw (← e, g) (k ∙ ap (λ (u : Outcome). record { outcome = u; size = record { rows = c; cells = n } }) g, (h, i, j))
+  applied_lent c n o y e h f = let k : ◌≡◌ {A = Result Size Fault} (lendable c n) (Ok y) = sym h.0 ∙ f in applied_is (change.Lend c n) y (Ok tt) e (rw k ((refl, rw f at h.1), refl, refl))
 
--- THE SIZE AFTER: the watch stays within what is lent
-module _ (z : Size) (xs ys ws xs' ys' ws' : List ℕ) (r : Changed) (w : Within z xs ys) (room : Room xs ys) (lx : length xs' ≡ length xs) (ly : length ys' ≡ length ys) where
-  same_size : (o : Outcome) → r ≡ record { outcome = o; size = z } → Within r.size xs' ys'
-  same_size o e = rw e (omega arith, omega arith)
+  pub applied_not : (c n : ℕ) (o : Result Size Fault) (f : Fault) → m ≡ change.Lend c n → Lent c n xs ys ws xs' ys' ws' o → o ≡ Err f → Applied m key z xs ys ws z xs' ys' ws' (Err f)
+  unfolding Lent
+  applied_not c n o f e h g = let k : ◌≡◌ {A = Result Size Fault} (lendable c n) (Err f) = sym h.0 ∙ g in applied_is (change.Lend c n) z (Err f) e (rw k ((refl, rw g at h.1), refl, refl))
 
-  lent_size_lem : (c n : ℕ) (o : Outcome) → o ≡ lendable c n → r ≡ record { outcome = o; size = lent_size o c n z } → Within r.size xs' ys'
-  lent_size_lem c n Done e f = let k = lend_fits c n Done e refl in rw f (omega (arith, k.0), omega (arith, k.1))
-  lent_size_lem c n (Wrong g) e f = same_size (Wrong g) f
+pub applied_row : (m : Change) (z : Size) (xs ys ws xs' key : List ℕ) (i a b : ℕ) (p : Part) (x : Row) (r : Result (Unit {0}) Fault) → m ≡ change.Row i p a b → x ≡ record { key = key; part = p; prev = a; next = b } → RowSet z i x xs xs' r → Applied m key z xs ys ws z xs' ys ws r
+applied_row m z xs ys ws xs' key i a b p x r e f h = applied_is m key z xs ys ws xs' ys ws (change.Row i p a b) z r e (rw f at h, refl, refl, refl)
 
-  pub applied_within : (m : Change) (k : M.Key) → AppliedBy m k z xs ys ws xs' ys' ws' r → Within r.size xs' ys'
-  unfolding Lent RowSet CellSet EndsSet
-  applied_within (change.Lend c n) k a = lent_size_lem c n (lendable c n) refl a.0
-  applied_within (change.Row i p b c) k a = same_size (row_there z i) a.0.0
-  applied_within (change.Cell i v) k a = same_size (cell_there z i) a.1.0
-  applied_within (change.Ends b c d) k a = same_size Done a.2.0
+pub applied_cell : (m : Change) (key : M.Key) (z : Size) (xs ys ws ys' : List ℕ) (i w : ℕ) (r : Result (Unit {0}) Fault) → m ≡ change.Cell i w → CellSet z i w ys ys' r → Applied m key z xs ys ws z xs ys' ws r
+applied_cell m key z xs ys ws ys' i w r e h = applied_is m key z xs ys ws xs ys' ws (change.Cell i w) z r e (refl, h, refl, refl)
+
+pub applied_ends : (m : Change) (key : M.Key) (z : Size) (xs ys ws ws' : List ℕ) (a b c : ℕ) → m ≡ change.Ends a b c → ws' ≡ a ∷ b ∷ c ∷ [] → Applied m key z xs ys ws z xs ys ws' (Ok tt)
+applied_ends m key z xs ys ws ws' a b c e h = applied_is m key z xs ys ws xs ys ws' (change.Ends a b c) z (Ok tt) e (refl, refl, h, refl, refl)

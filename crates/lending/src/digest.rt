@@ -1,19 +1,17 @@
 // The digest of a watch, word by word.
-ghost use Rattle.std.specs.Prelude.{◌≡◌, [], ◌∷◌, map, length};
+ghost use Rattle.std.specs.Prelude.{◌≡◌, [], ◌∷◌, map, length, Some};
 ghost use Rattle.rows.specs.Read.{row_is, ends_is, watch_is};
 ghost use Rattle.flat.specs.Words.{heard_words};
 ghost use Rattle.flat.specs.Table.{rows_of};
 ghost use Rattle.lending.specs.Digests as digests;
 ghost use Rattle.lending.specs.Digests.{mixed, mixed_all, link_word, distance_of, verdict_six, row_words, rows_words, ends_words, first_hash, digest_of};
-ghost use Rattle.lending.specs.Lendings.{Within, lent_to};
 ghost use Rattle.packing.specs.Words.{key_words, altitude_words, site_words, id_words};
 
-use crate::Size;
 use heard::Heard;
+use packing::Word;
 use rows::Row;
-use sites::{Altitude, Claimed};
-use verdicts::{Judged, Verdict, WrongBy};
-use view::EpochId;
+use sites::Site;
+use verdicts::Verdict;
 
 // h × 1,099,511,628,211 mod 2^64; the factor is 2^40 + 435.
 fn times(h: u64) -> u64
@@ -31,12 +29,14 @@ fn mix(h: u64, w: u64) -> u64
     times(h ^ w)
 }
 
+#[tactic(auto, unfolding(crate::specs::Digests::mixed_all))]
 fn mix_two(h: u64, a: u64, b: u64) -> u64
     ensures { result ≡ mixed_all h (a ∷ b ∷ []) }
 {
     mix(mix(h, a), b)
 }
 
+#[tactic(auto, unfolding(crate::specs::Digests::mixed_all))]
 fn mix_three(h: u64, a: u64, b: u64, c: u64) -> u64
     ensures { result ≡ mixed_all h (a ∷ b ∷ c ∷ []) }
 {
@@ -66,35 +66,37 @@ fn mix_key(h: u64, key: [u8; 32]) -> u64
     mix_two(mix_two(h, a, b), c, d)
 }
 
-fn mix_altitude(h: u64, a: Altitude) -> u64
-    ensures { result ≡ mixed_all h (altitude_words a) }
+#[tactic(auto, unfolding(packing::specs::Words::id_words))]
+fn mix_id(h: u64, id: Option<u64>) -> u64
+    ensures { result ≡ mixed_all h (id_words id) }
 {
-    match a {
-        Altitude::Metres(m) => mix_two(h, 1, packing::unsigned(m)),
-        Altitude::Unknown => mix_two(h, 0, 0),
+    match id {
+        Some(n) => mix_two(h, 1, n),
+        None => mix_two(h, 0, 0),
     }
 }
 
-fn mix_site(h: u64, site: Claimed) -> u64
+#[tactic(auto, unfolding(packing::specs::Words::altitude_words, packing::specs::Words::id_words))]
+fn mix_altitude(h: u64, a: Option<i32>) -> u64
+    ensures { result ≡ mixed_all h (altitude_words a) }
+{
+    match a {
+        Some(m) => mix_id(h, Some(m.word())),
+        None => mix_id(h, None),
+    }
+}
+
+fn mix_site(h: u64, site: Option<Site>) -> u64
     ensures { result ≡ mixed_all h (site_words site) }
 {
     match site {
-        Claimed::At(s) => {
+        Some(s) => {
             let lat = print::bits_of(s.lat);
             let lon = print::bits_of(s.lon);
             let alt = s.alt_m;
             mix_altitude(mix_three(h, 1, lat, lon), alt)
         }
-        Claimed::Nowhere => mix_two(mix_three(h, 0, 0, 0), 0, 0),
-    }
-}
-
-fn mix_id(h: u64, id: EpochId) -> u64
-    ensures { result ≡ mixed_all h (id_words id) }
-{
-    match id {
-        EpochId::Id(n) => mix_two(h, 1, n),
-        EpochId::Nothing => mix_two(h, 0, 0),
+        None => mix_two(mix_three(h, 0, 0, 0), 0, 0),
     }
 }
 
@@ -105,39 +107,34 @@ fn mix_heard(h: u64, heard: Heard) -> u64
     let even = heard.even;
     let odd = heard.odd;
     let a = mix_site(h, site);
-    let b = mix(a, packing::wide32(heard.generation));
+    let b = mix(a, heard.generation.word());
     mix_id(mix_id(b, even), odd)
 }
 
-fn distance(by: WrongBy) -> u64
+fn distance(by: Option<u32>) -> u64
     ensures { result ≡ distance_of by }
 {
     match by {
-        WrongBy::Km(d) => packing::wide32(d),
-        WrongBy::Nothing => 0,
+        Some(d) => d.word(),
+        None => 0,
     }
 }
 
 fn mix_run(h: u64, v: Verdict) -> u64
-    ensures { result ≡ mixed_all h (verdict_six (Judged.With v)) }
+    ensures { result ≡ mixed_all h (verdict_six (Some v)) }
 {
     let last = v.last;
     let by = v.wrong_by;
-    let a = mix_three(h, 1, packing::last_word(last), packing::wide8(v.wrong_run));
-    mix_three(
-        a,
-        packing::wide8(v.other_run),
-        distance(by),
-        packing::flag(v.moved),
-    )
+    let a = mix_three(h, 1, last.word(), v.wrong_run.word());
+    mix_three(a, v.other_run.word(), distance(by), v.moved.word())
 }
 
-fn mix_verdict(h: u64, j: Judged) -> u64
+fn mix_verdict(h: u64, j: Option<Verdict>) -> u64
     ensures { result ≡ mixed_all h (verdict_six j) }
 {
     match j {
-        Judged::With(v) => mix_run(h, v),
-        Judged::Never => mix_three(mix_three(h, 0, 0, 0), 0, 0, 0),
+        Some(v) => mix_run(h, v),
+        None => mix_three(mix_three(h, 0, 0, 0), 0, 0, 0),
     }
 }
 
@@ -152,7 +149,7 @@ fn mix_row(h: u64, row: Row) -> u64
     let b = mix_verdict(a, verdict);
     let c = mix_two(b, link_word(row.prev), link_word(row.next));
     let kept = part.judged_ms;
-    mix_id(c, packing::clock_id(kept))
+    mix_id(c, kept)
 }
 
 // ---- the watch
@@ -162,11 +159,8 @@ fn mix_rows(h: u64, rows: &[u64], n: u32) -> u64
     ensures { result ≡ mixed_all h (rows_words (map row_is (rows_of rows.now))) }
 {
     let mut g = h;
-    let mut i: u32 = 0;
-    while i < n {
-        let row = flat::get(rows, i);
-        g = mix_row(g, row);
-        i += 1;
+    for i in 0..n {
+        g = mix_row(g, flat::get(rows, i));
     }
     g
 }
@@ -175,10 +169,8 @@ fn mix_cells(h: u64, cells: &[u32]) -> u64
     ensures { result ≡ mixed_all h cells.now }
 {
     let mut g = h;
-    let mut i = 0;
-    while i < cells.len() {
-        g = mix(g, packing::wide32(cells[i]));
-        i += 1;
+    for w in cells {
+        g = mix(g, w.word());
     }
     g
 }
@@ -200,23 +192,12 @@ fn first_hash() -> u64
 }
 
 // Of n rows, with their cells and ends.
-fn of_all(n: u32, rows: &[u64], cells: &[u32], ends: &[u32; 3]) -> u64
+pub fn of_all(n: u32, rows: &[u64], cells: &[u32], ends: &[u32; 3]) -> u64
     requires { n ≡ length (rows_of rows.now) }
     ensures { result ≡ digest_of (watch_is (rows_of rows.now) cells.now ends.now) }
 {
-    let a = mix(first_hash(), packing::wide32(n));
+    let a = mix(first_hash(), n.word());
     let b = mix_ends(a, ends);
     let c = mix_rows(b, rows, n);
     mix_cells(c, cells)
-}
-
-// Of the watch, which is the first rows and cells of those that are lent.
-pub fn whole(z: Size, rows: &[u64], cells: &[u32], ends: &[u32; 3]) -> u64
-    requires { Within z rows.now cells.now }
-    ensures { result ≡ digest_of (lent_to z rows.now cells.now ends.now) }
-{
-    let n = z.rows;
-    let a = 25 * (n as usize);
-    let m = z.cells as usize;
-    of_all(n, &rows[..a], &cells[..m], ends)
 }

@@ -1,5 +1,5 @@
--- What an accepted call leaves in the lent words. It leaves a watch that passes questions 1 and 2 (crate `table`), so every row that the words are read as passes
--- question 2, and such words are the rows closed (crate `flat`): whatever the steps wrote, nothing else can stand in them.
+-- What a call leaves in what is lent. Accepted, it leaves a watch that passes questions 1 and 2 (crate `table`), so every row that is read there passes question 2,
+-- and of such rows each form of lending has its law (`chains/Lent.LeftLaws`): words are the rows closed, and nothing else can stand in them.
 use mathlib.Core.Path.{◌≡◌, refl, sym, subst}
 use Prim.Native.Nat.{ℕ, ◌≤◌}
 use native.Mathlib.Omega.{arith}
@@ -20,8 +20,8 @@ use Rattle.receiver.specs.declared.Part.{Part}
 use Rattle.receiver.specs.Calls.{Act, Out, kind, freed, siting, fresh_call, drop_oldest, call_on}
 use Rattle.receiver.proofs.Keeps.{lawful}
 use Rattle.rows.specs.Read.{form, row_is, watch_is}
-use Rattle.flat.specs.Table.{rows_of, words_of, Left}
-use Rattle.flat.proofs.Closed.{all_closed}
+use Rattle.rows.specs.declared.Row.{Row}
+use Rattle.chains.specs.Lent.{LeftLaws}
 use Rattle.moves.specs.declared.Answer.{Answer}
 use Rattle.moves.specs.Answers.{answer_is, outcome}
 use Rattle.lent.specs.Refusal.{is_no, Untouched}
@@ -64,31 +64,30 @@ fresh_keeps w =
     (question_one_yes form lawful.form_laws C s.some_row s.at_most (fresh_watch form C) [] [] (up_from 0 C) r, question_two_yes form lawful.form_laws C s.some_row s.at_most (fresh_watch form C) [] [] (up_from 0 C) r))
     (λ p. rw p tt)
 
--- THE WORDS AT EXIT
-module _ (r : Answer) (before after ys es : List ℕ) where
-  closes : Passes (watch_is (rows_of after) ys es) → after ≡ words_of (rows_of after)
-  unfolding question2
-  closes p =
-      let w = watch_is (rows_of after) ys es in
-      let some : 1 ≤ length (map row_is (rows_of after)) = (question_one form w p.0).some_row in
-      sym (all_closed after (omega (arith, some, length-map (rows_of after) row_is))
-      (and_2 (chains_match form.unmade w (chain form.unmade w.rows (length w.rows) w.ends.head) (chain form.unmade w.rows (length w.rows) w.ends.free)) (all_sound form.sound w.rows) p.1))
+-- question 2 asks of every row's part
+rows_sound : (w : Watch Part) → question2 form w ≡ true → all_sound form.sound w.rows ≡ true
+unfolding question2
+rows_sound w q = and_2 (chains_match form.unmade w (chain form.unmade w.rows (length w.rows) w.ends.head) (chain form.unmade w.rows (length w.rows) w.ends.free)) (all_sound form.sound w.rows) q
 
-  by_answer : (a : M.Answer Out) → (is_no a ≡ true → after ≡ before) → InOrder a (watch_is (rows_of after) ys es) → Left a before after
-  unfolding Left
-  by_answer (refused n) u k = u refl
-  by_answer (said pushed out) u k = closes k
+-- WHAT IS LENT, AT EXIT
+module _ {X : Type 0} {rows_in : List X → List Row} {left : M.Answer Out → List X → List X → Type 0} (laws : LeftLaws rows_in left) (r : Answer) (before after : List X) (ys es : List ℕ) where
+  by_answer : (a : M.Answer Out) → (is_no a ≡ true → after ≡ before) → InOrder a (watch_is (rows_in after) ys es) → left a before after
+  by_answer (refused n) u k = subst (left (refused n) before) (sym (u refl)) (laws.leaves n before)
+  by_answer (said pushed out) u k =
+      let w = watch_is (rows_in after) ys es in
+      let some : 1 ≤ length (map row_is (rows_in after)) = (question_one form w k.0).some_row in
+      laws.keeps pushed out before after (omega (arith, some, length-map (rows_in after) row_is)) (rows_sound w k.1)
 
-  left : (s : Step (Watch Part) Out) → outcome r (rows_of after) ys es ≡ s → Keeps s → Untouched r before after → Left (answer_is r) before after
+  leaves : (s : Step (Watch Part) Out) → outcome r (rows_in after) ys es ≡ s → Keeps s → Untouched r before after → left (answer_is r) before after
   unfolding Untouched
-  left s o k u = by_answer (answer_is r) u (subst Keeps (sym o) k)
+  leaves s o k u = by_answer (answer_is r) u (subst Keeps (sym o) k)
 
   -- a call's equation, and what it leaves
-  pub told_call : (w : Watch Part) (k : M.Key) (a : Act) → outcome r (rows_of after) ys es ≡ call_on w k a → Untouched r before after → (outcome r (rows_of after) ys es ≡ call_on w k a) × Left (answer_is r) before after
-  told_call w k a o u = (o, left (call_on w k a) o (call_keeps w k a) u)
+  pub told_call : (w : Watch Part) (k : M.Key) (a : Act) → outcome r (rows_in after) ys es ≡ call_on w k a → Untouched r before after → (outcome r (rows_in after) ys es ≡ call_on w k a) × left (answer_is r) before after
+  told_call w k a o u = (o, leaves (call_on w k a) o (call_keeps w k a) u)
 
-  pub told_drop : (w : Watch Part) → outcome r (rows_of after) ys es ≡ drop_oldest w → Untouched r before after → (outcome r (rows_of after) ys es ≡ drop_oldest w) × Left (answer_is r) before after
-  told_drop w o u = (o, left (drop_oldest w) o (drop_keeps w) u)
+  pub told_drop : (w : Watch Part) → outcome r (rows_in after) ys es ≡ drop_oldest w → Untouched r before after → (outcome r (rows_in after) ys es ≡ drop_oldest w) × left (answer_is r) before after
+  told_drop w o u = (o, leaves (drop_oldest w) o (drop_keeps w) u)
 
-  pub told_fresh : (w : Watch Part) → outcome r (rows_of after) ys es ≡ fresh_call w → Untouched r before after → (outcome r (rows_of after) ys es ≡ fresh_call w) × Left (answer_is r) before after
-  told_fresh w o u = (o, left (fresh_call w) o (fresh_keeps w) u)
+  pub told_fresh : (w : Watch Part) → outcome r (rows_in after) ys es ≡ fresh_call w → Untouched r before after → (outcome r (rows_in after) ys es ≡ fresh_call w) × left (answer_is r) before after
+  told_fresh w o u = (o, leaves (fresh_call w) o (fresh_keeps w) u)

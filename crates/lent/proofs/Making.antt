@@ -1,11 +1,11 @@
 -- The ways out of `fresh`. Facts on lists of rows alone.
 use mathlib.Core.Path.{◌≡◌, sym, ap, ◌∙◌}
 use Prim.Native.Nat.{ℕ, ◌≤◌, ◌*◌}
-use mathlib.Core.Bool.{Bool, true, false, not, ◌&&◌}
+use mathlib.Core.Bool.{Bool, true, false, ◌&&◌}
 use mathlib.Core.List.{List}
 use lib.Dec.{eqb, leb}
 use lib.ListN.{length, replicate}
-use borrow.Author.Tests.{not-true, not-false, leb-true}
+use borrow.Author.Tests.{leb-true}
 use Rattle.table.specs.Questions.{most}
 use Rattle.table.proofs.Tests.{and_1, and_2}
 use Rattle.cells.specs.Cells.{empty_word}
@@ -22,19 +22,21 @@ use Rattle.moves.proofs.Making.{fresh_no, fresh_yes}
 use Rattle.scans.specs.declared.Ends.{Ends}
 use Rattle.scans.specs.Ends.{fresh_ends}
 
-module _ (xs : List Row) (n m : ℕ) (t u : Bool) (long : n ≡ length xs) (test : t ≡ sizes_of n m) (other : u ≡ not t) where
-  sizes : t ≡ sizes_of (length xs) m
-  sizes = test ∙ ap (λ (j : ℕ). sizes_of j m) long
+module _ (xs : List Row) (n : ℕ) (ys ws : List ℕ) (t : Bool) (long : n ≡ length xs) (test : t ≡ sizes_of n (length ys)) where
+  sizes : t ≡ sizes_of (length xs) (length ys)
+  sizes = test ∙ ap (λ (j : ℕ). sizes_of j (length ys)) long
 
-  pub few_rows : u ≡ false → n ≤ 4096
+  pub few_rows : t ≡ true → length xs ≤ 4096
   unfolding most
   few_rows h =
-      let o : sizes_of n m ≡ true = sym test ∙ not-false t (sym other ∙ h) in
-      leb-true n most (and_1 (leb n most) (eqb m (width * n)) (and_2 (leb 1 n) (leb n most && eqb m (width * n)) o))
+      let most_rows = leb (length xs) most in
+      let cells = eqb (length ys) (width * length xs) in
+      leb-true (length xs) most (and_1 most_rows cells (and_2 (leb 1 (length xs)) (most_rows && cells) (sym sizes ∙ h)))
 
-  module _ (ys ws : List ℕ) (cells : m ≡ length ys) where
-    pub fresh_not : (r : Answer) → u ≡ true → r ≡ saying (Wd.Refused 1) → outcome r xs ys ws ≡ fresh_call (watch_is xs ys ws)
-    fresh_not r h q = fresh_no xs ys ws t r (sizes ∙ ap (sizes_of (length xs)) cells) (not-true t (sym other ∙ h)) q
+  pub fresh_not : (r : Answer) → t ≡ false → r ≡ saying (Wd.Refused 1) → outcome r xs ys ws ≡ fresh_call (watch_is xs ys ws)
+  fresh_not r h q = fresh_no xs ys ws t r sizes h q
 
-    pub fresh_made : (zs : List Row) (cs vs : List ℕ) (d : Ends) (r : Answer) → u ≡ false → zs ≡ fresh_from n 0 n → cs ≡ replicate (length ys) empty_word → d ≡ fresh_ends → ends_is vs ≡ ends_of d → r ≡ saying Wd.Done → outcome r zs cs vs ≡ fresh_call (watch_is xs ys ws)
-    fresh_made zs cs vs d r h z c q k v = fresh_yes xs ys ws t zs cs vs d r (sizes ∙ ap (sizes_of (length xs)) cells) (not-false t (sym other ∙ h)) (z ∙ ap (λ (j : ℕ). fresh_from j 0 j) long) c q k v
+  pub fresh_made :
+      (zs : List Row) (cs vs : List ℕ) (d : Ends) (r : Answer) → t ≡ true → zs ≡ fresh_from n 0 (length xs) → cs ≡ replicate (length ys) empty_word → d ≡ fresh_ends
+      → ends_is vs ≡ ends_of d → r ≡ saying Wd.Done → outcome r zs cs vs ≡ fresh_call (watch_is xs ys ws)
+  fresh_made zs cs vs d r h z c q k v = fresh_yes xs ys ws t zs cs vs d r sizes h (z ∙ ap (λ (j : ℕ). fresh_from j 0 (length xs)) long) c q k v

@@ -1,5 +1,5 @@
--- A step of a call over the lent words, where it refuses, changes none of them. Of a call itself `flat/Table.Left` says what it leaves. Definitions only.
-use Rattle.std.specs.Prelude.{◌≡◌, ℕ, Bool, true, false, List}
+-- A step of a call over lent rows, where it refuses, changes nothing of them. Of a call itself `left` of `chains::Lent` says what it leaves. Definitions only.
+use Rattle.std.specs.Prelude.{◌≡◌, Bool, true, false, List}
 use Rattle.table.specs.Machine as M
 use Rattle.table.specs.Machine.{refused, said}
 use Rattle.receiver.specs.Calls.{Out}
@@ -13,6 +13,6 @@ is_no (said pushed out) = false
 abbrev pub is_refusal : Answer → Bool
 is_refusal a = is_no (answer_is a)
 
--- refused, the words after the step are those before it
-unfoldable pub Untouched : Answer → List ℕ → List ℕ → Type 0
+-- refused, what is lent is after the step as it was before it
+unfoldable pub Untouched : {X : Type 0} → Answer → List X → List X → Type 0
 Untouched a before after = is_refusal a ≡ true → after ≡ before

@@ -1,5 +1,6 @@
-// The siting watch over rows lent as plain numbers, as C and Rust can lend them: the seven calls of crate `watch`, with the steps of crate `chains`.
-// Nothing is asked of what is lent: words that are no watch in order are refused, and a refusal changes no word. Accepted, the words are the call's rows, closed.
+// The siting watch: seven calls over rows, cells and ends that the caller lends, once for whatever rows are lent as (`chains::Lent`): plain numbers, as C and Rust
+// can lend them, or records. Nothing is asked of what is lent: what is no watch in order is refused, and a refusal changes nothing. A call looks at each row once
+// (crate `chains`), decides on values (crates `bodies` and `moves`), and then stores.
 #![tactic(auto)]
 
 ghost use Rattle.std.specs.Prelude.{◌≡◌, true, false, get_or};
@@ -7,27 +8,26 @@ ghost use Rattle.heard.specs.Heard.{site_fits};
 ghost use Rattle.receiver.specs.Calls as calls;
 ghost use Rattle.rows.specs.Read.{watch_is};
 ghost use Rattle.rows.specs.Links.{blank};
-ghost use Rattle.flat.specs.Table.{rows_of, Left};
 ghost use Rattle.moves.specs.Answers.{answer_is, outcome};
 ghost use Rattle.moves.specs.Moves.{ClaimedRow, HeardRow, judged_as, judged_rows, checked_as, remove_move, removed_rows};
 ghost use Rattle.lent.specs.Refusal.{Untouched};
 ghost use Rattle.scans.specs.Scan.{is_no, is_unfit, at_of};
 ghost use Rattle.bodies.specs.Bodies.{due_look};
 
+use chains::Lent;
 use heard::{Heard, Position};
 use moves::{Answer, Count, Move};
 use near_field::Judgment;
 use scans::{Ends, Key, Look};
-use sites::Claimed;
+use sites::Site;
 
 // ---- check
 
 // What is said of the row that was found.
-fn check_row(rows: &[u64], l: Look) -> Answer
-    ensures { result ≡ checked_as l (get_or (rows_of rows.now) (at_of l) blank).part.verdict }
+fn check_row<W: Lent>(rows: &[W], l: Look) -> Answer
+    ensures { result ≡ checked_as l (get_or (W.rows_in rows.now) (at_of l) blank).part.verdict }
 {
-    let bad = scans::is_no(l);
-    if bad {
+    if scans::is_no(l) {
         return moves::no_to(l);
     }
     let held = chains::found(rows, l);
@@ -35,8 +35,8 @@ fn check_row(rows: &[u64], l: Look) -> Answer
 }
 
 // What is held of the key's site. This marks nothing.
-pub fn check(rows: &mut [u64], cells: &mut [u32], ends: &mut [u32; 3], key: Key) -> Answer
-    ensures { (outcome result (rows_of rows.new) cells.new ends.new ≡ calls.call_on (watch_is (rows_of rows.old) cells.old ends.old) key.bytes calls.check) × Left (answer_is result) rows.old rows.new }
+pub fn check<W: Lent>(rows: &mut [W], cells: &mut [u32], ends: &mut [u32; 3], key: Key) -> Answer
+    ensures { (outcome result (W.rows_in rows.new) cells.new ends.new ≡ calls.call_on (watch_is (W.rows_in rows.old) cells.old ends.old) key.bytes calls.check) × W.left (answer_is result) rows.old rows.new }
 {
     let e = moves::ends_of(ends);
     let l = chains::look_up(rows, cells.len(), e, key);
@@ -46,22 +46,21 @@ pub fn check(rows: &mut [u64], cells: &mut [u32], ends: &mut [u32; 3], key: Key)
 // ---- take-out and drop-oldest
 
 // The row that was found is freed, and its key answered.
-fn remove(rows: &mut [u64], e: Ends, l: Look) -> Move
-    ensures { (result ≡ remove_move (rows_of rows.old) e l) × (rows_of rows.new ≡ removed_rows (rows_of rows.old) e l) × Untouched result.answer rows.old rows.new }
+fn remove<W: Lent>(rows: &mut [W], e: Ends, l: Look) -> Move
+    ensures { (result ≡ remove_move (W.rows_in rows.old) e l) × (W.rows_in rows.new ≡ removed_rows (W.rows_in rows.old) e l) × Untouched result.answer rows.old rows.new }
 {
-    let bad = scans::is_no(l);
-    if bad {
+    if scans::is_no(l) {
         return moves::unfit_move(e, l);
     }
     let i = scans::at_of(l);
-    let row = flat::get(rows, i);
+    let row = W::get(rows, i);
     let d = chains::release(rows, e, i);
     moves::moving(d, l, moves::freed_row(row))
 }
 
 // The key's row is freed.
-pub fn take_out(rows: &mut [u64], cells: &mut [u32], ends: &mut [u32; 3], key: Key) -> Answer
-    ensures { (outcome result (rows_of rows.new) cells.new ends.new ≡ calls.call_on (watch_is (rows_of rows.old) cells.old ends.old) key.bytes calls.take_out) × Left (answer_is result) rows.old rows.new }
+pub fn take_out<W: Lent>(rows: &mut [W], cells: &mut [u32], ends: &mut [u32; 3], key: Key) -> Answer
+    ensures { (outcome result (W.rows_in rows.new) cells.new ends.new ≡ calls.call_on (watch_is (W.rows_in rows.old) cells.old ends.old) key.bytes calls.take_out) × W.left (answer_is result) rows.old rows.new }
 {
     let e = moves::ends_of(ends);
     let l = chains::look_up(rows, cells.len(), e, key);
@@ -72,8 +71,8 @@ pub fn take_out(rows: &mut [u64], cells: &mut [u32], ends: &mut [u32; 3], key: K
 }
 
 // The least recently used row is freed.
-pub fn drop_oldest(rows: &mut [u64], cells: &mut [u32], ends: &mut [u32; 3]) -> Answer
-    ensures { (outcome result (rows_of rows.new) cells.new ends.new ≡ calls.drop_oldest (watch_is (rows_of rows.old) cells.old ends.old)) × Left (answer_is result) rows.old rows.new }
+pub fn drop_oldest<W: Lent>(rows: &mut [W], cells: &mut [u32], ends: &mut [u32; 3]) -> Answer
+    ensures { (outcome result (W.rows_in rows.new) cells.new ends.new ≡ calls.drop_oldest (watch_is (W.rows_in rows.old) cells.old ends.old)) × W.left (answer_is result) rows.old rows.new }
 {
     let e = moves::ends_of(ends);
     let k = moves::zero_key();
@@ -88,44 +87,43 @@ pub fn drop_oldest(rows: &mut [u64], cells: &mut [u32], ends: &mut [u32; 3]) -> 
 // ---- judging
 
 // The row that was found, unless it is too soon to judge it.
-fn due_at(rows: &[u64], l: Look, now_ms: u64) -> Look
-    ensures { result ≡ due_look l (get_or (rows_of rows.now) (at_of l) blank).part.judged_ms now_ms }
+fn due_at<W: Lent>(rows: &[W], l: Look, now_ms: u64) -> Look
+    ensures { result ≡ due_look l (get_or (W.rows_in rows.now) (at_of l) blank).part.judged_ms now_ms }
 {
     bodies::due(l, chains::found(rows, l), now_ms)
 }
 
 // What was heard by the row that was found.
-fn heard_at(rows: &[u64], l: Look) -> Heard
-    ensures { result ≡ (get_or (rows_of rows.now) (at_of l) blank).part.heard }
+fn heard_at<W: Lent>(rows: &[W], l: Look) -> Heard
+    ensures { result ≡ (get_or (W.rows_in rows.now) (at_of l) blank).part.heard }
 {
     bodies::heard_in(chains::found(rows, l))
 }
 
 // The judgment and its clock are kept by the row that was found.
-fn judge_row(rows: &mut [u64], l: Look, now_ms: u64, j: Judgment) -> Answer
-    ensures { (result ≡ judged_as l j) × (rows_of rows.new ≡ judged_rows (rows_of rows.old) l now_ms j) × Untouched result rows.old rows.new }
+fn judge_row<W: Lent>(rows: &mut [W], l: Look, now_ms: u64, j: Judgment) -> Answer
+    ensures { (result ≡ judged_as l j) × (W.rows_in rows.new ≡ judged_rows (W.rows_in rows.old) l now_ms j) × Untouched result rows.old rows.new }
 {
-    let bad = scans::is_no(l);
-    if bad {
+    if scans::is_no(l) {
         return moves::no_to(l);
     }
     let i = scans::at_of(l);
-    let row = flat::get(rows, i);
+    let row = W::get(rows, i);
     let judged = bodies::judged_part(row, now_ms, j);
-    flat::put(rows, i, judged);
+    W::put(rows, i, judged);
     moves::judged(j)
 }
 
 // The key's claim is judged by what was heard. This marks nothing.
-pub fn judging(
-    rows: &mut [u64],
+pub fn judging<W: Lent>(
+    rows: &mut [W],
     cells: &mut [u32],
     ends: &mut [u32; 3],
     key: Key,
     now_ms: u64,
     aircraft: u64,
 ) -> Answer
-    ensures { (outcome result (rows_of rows.new) cells.new ends.new ≡ calls.call_on (watch_is (rows_of rows.old) cells.old ends.old) key.bytes (calls.judging now_ms aircraft)) × Left (answer_is result) rows.old rows.new }
+    ensures { (outcome result (W.rows_in rows.new) cells.new ends.new ≡ calls.call_on (watch_is (W.rows_in rows.old) cells.old ends.old) key.bytes (calls.judging now_ms aircraft)) × W.left (answer_is result) rows.old rows.new }
 {
     let e = moves::ends_of(ends);
     let l = chains::look_up(rows, cells.len(), e, key);
@@ -138,19 +136,17 @@ pub fn judging(
 // ---- position
 
 // The position, on the rows alone.
-fn hear_row(rows: &mut [u64], e: Ends, l: Look, p: Position) -> Count
-    requires { is_no l ≡ false → site_fits (get_or (rows_of rows.old) (at_of l) blank).part.heard.site ≡ true }
-    ensures { HeardRow (rows_of rows.old) e l p result (rows_of rows.new) × Untouched result.answer rows.old rows.new }
+fn hear_row<W: Lent>(rows: &mut [W], e: Ends, l: Look, p: Position) -> Count
+    requires { is_no l ≡ false → site_fits (get_or (W.rows_in rows.old) (at_of l) blank).part.heard.site ≡ true }
+    ensures { HeardRow (W.rows_in rows.old) e l p result (W.rows_in rows.new) × Untouched result.answer rows.old rows.new }
 {
-    let bad = scans::is_no(l);
-    if bad {
+    if scans::is_no(l) {
         return moves::uncounted(e, l);
     }
     let row = chains::found(rows, l);
     let i = scans::at_of(l);
     let h = bodies::hear(row, p);
-    let no = bodies::is_unheard(h);
-    if no {
+    if bodies::is_unheard(h) {
         return moves::unheard(e, i, h);
     }
     let part = bodies::hear_part(row, h);
@@ -159,14 +155,14 @@ fn hear_row(rows: &mut [u64], e: Ends, l: Look, p: Position) -> Count
 }
 
 // The key's receiver has heard an aircraft.
-pub fn position(
-    rows: &mut [u64],
+pub fn position<W: Lent>(
+    rows: &mut [W],
     cells: &mut [u32],
     ends: &mut [u32; 3],
     key: Key,
     p: Position,
 ) -> Answer
-    ensures { (outcome result (rows_of rows.new) cells.new ends.new ≡ calls.call_on (watch_is (rows_of rows.old) cells.old ends.old) key.bytes (calls.position p)) × Left (answer_is result) rows.old rows.new }
+    ensures { (outcome result (W.rows_in rows.new) cells.new ends.new ≡ calls.call_on (watch_is (W.rows_in rows.old) cells.old ends.old) key.bytes (calls.position p)) × W.left (answer_is result) rows.old rows.new }
 {
     let e = moves::ends_of(ends);
     let l = chains::look_up(rows, cells.len(), e, key);
@@ -179,18 +175,16 @@ pub fn position(
 // ---- claim
 
 // The claim, on the rows alone.
-fn claim_row(rows: &mut [u64], e: Ends, l: Look, key: Key, site: Claimed) -> Move
-    requires { is_unfit l ≡ false → site_fits (get_or (rows_of rows.old) (at_of l) blank).part.heard.site ≡ true }
-    ensures { ClaimedRow (rows_of rows.old) e l key site result (rows_of rows.new) × Untouched result.answer rows.old rows.new }
+fn claim_row<W: Lent>(rows: &mut [W], e: Ends, l: Look, key: Key, site: Option<Site>) -> Move
+    requires { is_unfit l ≡ false → site_fits (get_or (W.rows_in rows.old) (at_of l) blank).part.heard.site ≡ true }
+    ensures { ClaimedRow (W.rows_in rows.old) e l key site result (W.rows_in rows.new) × Untouched result.answer rows.old rows.new }
 {
-    let bad = scans::unfit(l);
-    if bad {
+    if scans::unfit(l) {
         return moves::unfit_move(e, l);
     }
     let row = chains::found(rows, l);
     let c = bodies::claiming(row, site);
-    let outside = bodies::is_refused(c);
-    if outside {
+    if bodies::is_refused(c) {
         return moves::outside_move(e);
     }
     let part = bodies::claim_part(row, c);
@@ -199,14 +193,14 @@ fn claim_row(rows: &mut [u64], e: Ends, l: Look, key: Key, site: Claimed) -> Mov
 }
 
 // The key's site is claimed, or none.
-pub fn claim(
-    rows: &mut [u64],
+pub fn claim<W: Lent>(
+    rows: &mut [W],
     cells: &mut [u32],
     ends: &mut [u32; 3],
     key: Key,
-    site: Claimed,
+    site: Option<Site>,
 ) -> Answer
-    ensures { (outcome result (rows_of rows.new) cells.new ends.new ≡ calls.call_on (watch_is (rows_of rows.old) cells.old ends.old) key.bytes (calls.claim site)) × Left (answer_is result) rows.old rows.new }
+    ensures { (outcome result (W.rows_in rows.new) cells.new ends.new ≡ calls.call_on (watch_is (W.rows_in rows.old) cells.old ends.old) key.bytes (calls.claim site)) × W.left (answer_is result) rows.old rows.new }
 {
     let e = moves::ends_of(ends);
     let l = chains::look_up(rows, cells.len(), e, key);
@@ -219,13 +213,11 @@ pub fn claim(
 // ---- fresh
 
 // Every row free and as fresh, whatever was there.
-pub fn fresh(rows: &mut [u64], cells: &mut [u32], ends: &mut [u32; 3]) -> Answer
-    ensures { (outcome result (rows_of rows.new) cells.new ends.new ≡ calls.fresh_call (watch_is (rows_of rows.old) cells.old ends.old)) × Left (answer_is result) rows.old rows.new }
+pub fn fresh<W: Lent>(rows: &mut [W], cells: &mut [u32], ends: &mut [u32; 3]) -> Answer
+    ensures { (outcome result (W.rows_in rows.new) cells.new ends.new ≡ calls.fresh_call (watch_is (W.rows_in rows.old) cells.old ends.old)) × W.left (answer_is result) rows.old rows.new }
 {
-    let n = flat::count(rows);
-    let fit = rows::sizes_fit(n, cells.len());
-    let bad = scans::negated(fit);
-    if bad {
+    let n = W::count(rows);
+    if !rows::sizes_fit(n, cells.len()) {
         return moves::no_first();
     }
     chains::fresh_rows(rows, n);

@@ -1,14 +1,14 @@
 // An input, line by line, through a buffer that the caller lends.
 #![tactic(auto)]
 
-ghost use Rattle.std.specs.Prelude.{◌≡◌, ◌≤◌, true};
+ghost use Rattle.std.specs.Prelude.{◌≡◌, ◌≤◌, true, length};
 ghost use Rattle.lines.specs.Lines.{Within, start_of, line_of, last_of, kept_of, taken_of, Refilled, ReadOn, Next, bytes_of};
-ghost use Rattle.lines.specs.Streams.{left_in, source_failed};
+ghost use Rattle.lines.specs.Streams.{left_in, source_failed, ended};
 
 mod streams;
 
-use std::io::Read;
-pub use streams::{Sink, Source};
+use std::io::{Read, Result};
+pub use streams::{Sink, Source, Stream};
 
 // What was read and not yet given lies from `at` to `have` in the buffer.
 #[derive(Clone, Copy)]
@@ -30,6 +30,7 @@ pub enum Line {
     Nothing,
 }
 
+// What a turn comes to.
 #[derive(Clone, Copy)]
 pub struct Step {
     pub input: Input,
@@ -37,15 +38,20 @@ pub struct Step {
 }
 
 // Nothing was read yet.
-pub fn start() -> Input
-    ensures { result ≡ start_of }
-{
-    Input {
-        at: 0,
-        have: 0,
-        long: false,
-        more: true,
-    }
+const START: Input = Input {
+    at: 0,
+    have: 0,
+    long: false,
+    more: true,
+};
+
+// A source, its buffer, and where the bytes that wait lie in it.
+#[derive(Drop)]
+pub struct Lines<'a, R> {
+    pub source: Source<R>,
+    pub buf: &'a mut [u8],
+    pub input: Input,
+    ghost within: { Within input buf.now },
 }
 
 // A whole line, given that it is not too long.
@@ -92,91 +98,115 @@ fn kept(s: Input) -> Input
     }
 }
 
-// Reads on behind the bytes that are left, which are moved to the front. Where nothing came they are the last line.
-fn refill<R: Read>(s: Input, from: &mut Source<R>, buf: &mut [u8]) -> Step
-    requires { Within s buf.old }
-    ensures is { (Within result.input buf.new) × (Refilled s result) }
-    ensures came { ReadOn s (left_in R.remaining from.old) (left_in R.remaining from.new) buf.old buf.new result }
-    ensures failed { source_failed from.old ≡ true → from.new ≡ from.old }
-{
-    let k = kept(s);
-    let start = k.at;
-    let end = k.have;
-    let long = k.long;
-    let left = fields::to_front(buf, start, end);
-    let came = from.read(&mut buf[left..]);
-    if came == 0 {
-        return Step {
+impl<'a, R: Read> Lines<'a, R> {
+    // Nothing was read yet.
+    pub fn new(source: Source<R>, buf: &'a mut [u8]) -> Lines<'a, R>
+        ensures source { result.source ≡ source }
+        ensures buffer { result.buf.ghost_name ≡ buf.entry.ghost_name }
+        ensures bytes { result.buf.now ≡ buf.old }
+        ensures input { result.input ≡ start_of }
+    {
+        Lines {
+            source,
+            buf,
+            input: START,
+        }
+    }
+
+    // The next line of those that were read, its line end passed over; nothing where no line is whole.
+    fn taken(&self) -> Step
+        ensures { (result ≡ taken_of self.now.input self.now.buf.now) × Within result.input self.now.buf.now }
+    {
+        let s = self.input;
+        let n = fields::find(&self.buf[s.at..s.have], b'\n');
+        if n == s.have - s.at {
+            return Step {
+                input: s,
+                line: Line::Nothing,
+            };
+        }
+        let end = s.at + n;
+        Step {
             input: Input {
-                at: 0,
-                have: 0,
-                long: false,
-                more: false,
+                at: end + 1,
+                have: s.have,
+                ..START
             },
-            line: last(left, long),
-        };
+            line: whole(s.long, s.at, end),
+        }
     }
-    Step {
-        input: Input {
-            at: 0,
+
+    // Reads on behind the bytes that are left, which are moved to the front. Where nothing came they are the last line.
+    fn refill(&mut self) -> Line
+        ensures is { Refilled self.old.input (record { input = self.new.input; line = result }) }
+        ensures came { ReadOn self.old.input (left_in R.remaining self.old.source) (left_in R.remaining self.new.source) self.old.buf.now self.new.buf.now (record { input = self.new.input; line = result }) }
+        ensures failed { source_failed self.old.source ≡ true → self.new.source ≡ self.old.source }
+        ensures buffer { (self.new.buf.ghost_name ≡ self.old.buf.ghost_name) × (length self.new.buf.now ≡ length self.old.buf.now) }
+    {
+        let k = kept(self.input);
+        let left = fields::to_front(self.buf, k.at, k.have);
+        let came = self.source.read(&mut self.buf[left..]);
+        if came == 0 {
+            self.input = Input {
+                more: false,
+                ..START
+            };
+            return last(left, k.long);
+        }
+        self.input = Input {
             have: left + came,
-            long,
-            more: true,
-        },
-        line: Line::Nothing,
-    }
-}
-
-// The next line of those that were read, its line end passed over; nothing where no line is whole.
-fn taken(s: Input, buf: &[u8]) -> Step
-    requires { Within s buf.now }
-    ensures { (result ≡ taken_of s buf.now) × Within result.input buf.now }
-{
-    let at = s.at;
-    let have = s.have;
-    let n = fields::find(&buf[at..have], b'\n');
-    if n == have - at {
-        return Step {
-            input: s,
-            line: Line::Nothing,
+            long: k.long,
+            ..START
         };
+        Line::Nothing
     }
-    let end = at + n;
-    Step {
-        input: Input {
-            at: end + 1,
-            have,
-            long: false,
-            more: true,
-        },
-        line: whole(s.long, at, end),
-    }
-}
 
-// The next line, or more bytes where no line is whole. After the last line `more` is false.
-pub fn next_line<R: Read>(s: Input, from: &mut Source<R>, buf: &mut [u8]) -> Step
-    requires { Within s buf.old }
-    ensures next { (Within result.input buf.new) × (Next s (taken_of s buf.old) result (taken_of s buf.old).line) }
-    ensures whole { ((taken_of s buf.old).line ≡ Line.Nothing → ⊥) → (from.new ≡ from.old) × (buf.new ≡ buf.old) }
-    ensures came { (taken_of s buf.old).line ≡ Line.Nothing → ReadOn s (left_in R.remaining from.old) (left_in R.remaining from.new) buf.old buf.new result }
-    ensures failed { source_failed from.old ≡ true → from.new ≡ from.old }
-{
-    let t = taken(s, buf);
-    let line = t.line;
-    match line {
-        Line::Nothing => refill(s, from, buf),
-        Line::TooLong => t,
-        Line::At { start: _, end: _ } => t,
+    // The next line, or more bytes where no line is whole. After the last line `more` is false.
+    pub fn next_line(&mut self) -> Line
+        ensures next { Next self.old.input (taken_of self.old.input self.old.buf.now) (record { input = self.new.input; line = result }) (taken_of self.old.input self.old.buf.now).line }
+        ensures whole { ((taken_of self.old.input self.old.buf.now).line ≡ Line.Nothing → ⊥) → (self.new.source ≡ self.old.source) × (self.new.buf.now ≡ self.old.buf.now) }
+        ensures came { (taken_of self.old.input self.old.buf.now).line ≡ Line.Nothing → ReadOn self.old.input (left_in R.remaining self.old.source) (left_in R.remaining self.new.source) self.old.buf.now self.new.buf.now (record { input = self.new.input; line = result }) }
+        ensures failed { source_failed self.old.source ≡ true → self.new.source ≡ self.old.source }
+        ensures buffer { (self.new.buf.ghost_name ≡ self.old.buf.ghost_name) × (length self.new.buf.now ≡ length self.old.buf.now) }
+    {
+        let t = self.taken();
+        match t.line {
+            Line::Nothing => self.refill(),
+            Line::TooLong | Line::At { .. } => {
+                self.input = t.input;
+                t.line
+            }
+        }
     }
-}
 
-// The bytes of a line, none where there is no whole one.
-pub fn bytes(line: Line, buf: &[u8]) -> &[u8]
-    ensures { result.now ≡ bytes_of buf.now line }
-{
-    match line {
-        Line::At { start, end } => fields::part(buf, start, end),
-        Line::TooLong => &buf[..0],
-        Line::Nothing => &buf[..0],
+    // The bytes of a line, none where there is no whole one.
+    pub fn bytes(&self, line: Line) -> &[u8]
+        ensures { result.now ≡ bytes_of self.now.buf.now line }
+    {
+        match line {
+            Line::At { start, end } => fields::part(self.buf, start, end),
+            Line::TooLong | Line::Nothing => &[],
+        }
+    }
+
+    // More may come: the input has not ended.
+    pub fn more(&self) -> bool
+        ensures { result ≡ self.now.input.more }
+    {
+        self.input.more
+    }
+
+    // The error that came, if one did.
+    pub fn end(self) -> Result<()>
+    where
+        R: Drop,
+        ensures { result ≡ ended self.entry.source }
+    {
+        let Lines {
+            source,
+            buf: _,
+            input: _,
+        } = self;
+        source.end()
     }
 }

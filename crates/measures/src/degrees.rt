@@ -10,36 +10,28 @@ use super::steps;
 pub fn within_90(x: f64) -> bool
     ensures { result ≡ within 90 x }
 {
-    if x >= -90.0 { x <= 90.0 } else { false }
+    x >= -90.0 && x <= 90.0
 }
 
 // Whether x is finite and from -180 to 180.
 pub fn within_180(x: f64) -> bool
     ensures { result ≡ within 180 x }
 {
-    if x >= -180.0 { x <= 180.0 } else { false }
+    x >= -180.0 && x <= 180.0
 }
 
 // Question 4: are both degrees finite, lat -90 to 90, lon -180 to 180?
 pub fn in_degrees(lat: f64, lon: f64) -> bool
     ensures { result ≡ in_degrees lat lon }
 {
-    if within_90(lat) {
-        within_180(lon)
-    } else {
-        false
-    }
+    within_90(lat) && within_180(lon)
 }
 
 // The same of the bits of two floats, with no float made: of the patterns of one sign the order is that of the numbers, and a NaN's stand behind them all.
 pub fn bits_in_degrees(lat: u64, lon: u64) -> bool
     ensures { result ≡ in_degrees (from_bits binary64 lat) (from_bits binary64 lon) }
 {
-    if lat % 9223372036854775808 <= 4636033603912859648 {
-        lon % 9223372036854775808 <= 4640537203540230144
-    } else {
-        false
-    }
+    lat % (1 << 63) <= 0x4056_8000_0000_0000 && lon % (1 << 63) <= 0x4066_8000_0000_0000
 }
 
 // x with its sign turned where it is negative.

@@ -1,5 +1,8 @@
 -- One law for each way out of a call: what its callees came to is the definitions' step. Facts on lists alone; crates `watch` and `lent` cite them
 -- with their callees' contracts.
+use Rattle.std.specs.Prelude.{Option}
+use Rattle.sites.specs.declared.Site.{Site}
+use Rattle.verdicts.specs.declared.Verdict.{Verdict}
 use mathlib.Core.Path.{◌≡◌, refl, sym, ◌∙◌, ap, ap₂, subst}
 use Prim.Native.Nat.{ℕ, ◌≤◌, ◌+◌, ◌*◌}
 use mathlib.Core.Bool.{Bool, true, false, cond, ◌||◌}
@@ -12,13 +15,10 @@ use Rattle.table.specs.Machine.{Step}
 use Rattle.table.specs.Rows.{NONE, Watch}
 use Rattle.table.specs.Watch.{refusal}
 use Rattle.table.proofs.Tests.{by_bool, clash}
-use Rattle.sites.specs.declared.Claimed.{Claimed}
 use Rattle.near_field.specs.declared.Judgment.{Judgment}
 use Rattle.heard.specs.declared.Heard.{Heard}
 use Rattle.receiver.specs.declared.Part.{Part}
 use Rattle.heard.specs.declared.Position.{Position}
-use Rattle.verdicts.specs.declared.Judged.{Judged}
-use Rattle.verdicts.specs.declared.JudgedAt.{JudgedAt}
 use Rattle.heard.specs.declared.Claiming.{Claiming}
 use Rattle.heard.specs.declared.Hearing.{Hearing}
 use Rattle.heard.specs.declared.Hearing.TheVariants as Hearings
@@ -46,11 +46,11 @@ use Rattle.scans.specs.Scan.{is_no, is_unfit, at_of, number_of}
 use Rattle.bodies.specs.Bodies.{is_refused, has_moved, claim_part, is_unheard, hear_part, counted_by, RoomAt, emptied_at, due_look, judged_at, judged_row}
 
 -- THE ROWS ALONE: the ways out of claim_row and hear_row
-pub claim_left : (xs : List Row) (e : Ends) (l : Look) (k : Key) (site : Claimed) (row : Row) (c : Claiming) (m : Move) → is_unfit l ≡ false → row ≡ get_or xs (at_of l) blank → ((n : List ℕ) → claiming_is c n ≡ claimed row.part.heard n site) → is_refused c ≡ true → m ≡ staying e (saying (Wd.Refused 4))
+pub claim_left : (xs : List Row) (e : Ends) (l : Look) (k : Key) (site : Option Site) (row : Row) (c : Claiming) (m : Move) → is_unfit l ≡ false → row ≡ get_or xs (at_of l) blank → ((n : List ℕ) → claiming_is c n ≡ claimed row.part.heard n site) → is_refused c ≡ true → m ≡ staying e (saying (Wd.Refused 4))
     → ClaimedRow xs e l k site m xs
 claim_left xs e l k site row c m f er ec t p = by_site c f (λ n. ec n ∙ ap (λ (x : Row). claimed x.part.heard n site) er) t p refl
 
-pub claim_kept : (xs : List Row) (e : Ends) (l : Look) (k : Key) (site : Claimed) (row : Row) (c : Claiming) (q : Part) (s : Seat) (zs : List Row) (m : Move) → is_unfit l ≡ false → row ≡ get_or xs (at_of l) blank → ((n : List ℕ) → claiming_is c n ≡ claimed row.part.heard n site) → is_refused c ≡ false
+pub claim_kept : (xs : List Row) (e : Ends) (l : Look) (k : Key) (site : Option Site) (row : Row) (c : Claiming) (q : Part) (s : Seat) (zs : List Row) (m : Move) → is_unfit l ≡ false → row ≡ get_or xs (at_of l) blank → ((n : List ℕ) → claiming_is c n ≡ claimed row.part.heard n site) → is_refused c ≡ false
     → q ≡ claim_part row.part c → (s ≡ seat_of xs e l q) × (zs ≡ seated_rows xs e l k q) → m ≡ seat_move s c → ClaimedRow xs e l k site m zs
 claim_kept xs e l k site row c q s zs m f er ec t eq es em =
     let p : q ≡ claim_part (get_or xs (at_of l) blank).part c = eq ∙ ap (λ (x : Row). claim_part x.part c) er in
@@ -80,7 +80,7 @@ pub judge_kept : (xs : List Row) (l : Look) (now : ℕ) (j : Judgment) (i : ℕ)
 judge_kept xs (L.No n) now j i row x zs r t ei er ex ez q = clash refl t
 judge_kept xs (L.At m) now j i row x zs r t ei er ex ez q = (q, ez ∙ ap (set xs i) (ex ∙ ap (λ (y : Row). judged_row y now j) er) ∙ ap (λ (n : ℕ). set xs n (judged_row (get_or xs n blank) now j)) ei)
 
-pub check_none : (l : Look) (v : Judged) (r : Answer) → is_no l ≡ true → r ≡ saying (Wd.Refused (number_of l)) → r ≡ checked_as l v
+pub check_none : (l : Look) (v : Option Verdict) (r : Answer) → is_no l ≡ true → r ≡ saying (Wd.Refused (number_of l)) → r ≡ checked_as l v
 check_none (L.No n) v r t q = q
 check_none (L.At i) v r t q = clash t refl
 
@@ -126,7 +126,7 @@ module _ (xs : List Row) (ys ws : List ℕ) (e : Ends) (key : Key) (l : Look) (e
       as_at (L.At j) h = refl
 
   -- the clock of the row that was found, and its judgment
-  abbrev keeps : JudgedAt
+  abbrev keeps : Option ℕ
   keeps = (get_or xs (at_of l) blank).part.judged_ms
 
   abbrev found : ℕ → ℕ → Judgment
@@ -228,7 +228,7 @@ module _ (xs : List Row) (ys ws : List ℕ) (e : Ends) (key : Key) (l : Look) (e
           → outcome r zs cs vs ≡ drop_oldest (watch_is xs ys ws)
       go z oz f g = removed z (drop_oldest (watch_is xs ys ws)) m zs cs vs r (p.0 ∙ ap (remove_move xs e) oz, p.1 ∙ ap (removed_rows xs e) oz) c v a f g
 
-  pub claim_room : (site : Claimed) (m : Move) (zs : List Row) → ClaimedRow xs e l key site m zs → RoomAt m.clear (length ys)
+  pub claim_room : (site : Option Site) (m : Move) (zs : List Row) → ClaimedRow xs e l key site m zs → RoomAt m.clear (length ys)
   claim_room site m zs (by_look f p q) = subst (λ (x : Move). RoomAt x.clear (length ys)) (sym p) tt
   claim_room site m zs (by_site c f ec t p q) = subst (λ (x : Move). RoomAt x.clear (length ys)) (sym p) tt
   claim_room site m zs (seated c f ec t p q) = subst (λ (x : Move). RoomAt x.clear (length ys)) (sym p) (go ((seat_of xs e l part).made || has_moved c))
@@ -240,7 +240,7 @@ module _ (xs : List Row) (ys ws : List ℕ) (e : Ends) (key : Key) (l : Look) (e
       go true = Look'.seat_room xs ys ws e key l ends_are seen f (claim_part (get_or xs (at_of l) blank).part c) (seat_of xs e l (claim_part (get_or xs (at_of l) blank).part c)) refl
       go false = tt
 
-  pub claim_so : (site : Claimed) (m : Move) (zs : List Row) (cs vs : List ℕ) (r : Answer) → ClaimedRow xs e l key site m zs → cs ≡ emptied_at ys m.clear → ends_is vs ≡ ends_of m.ends → r ≡ m.answer → outcome r zs cs vs ≡ stepped (claim site)
+  pub claim_so : (site : Option Site) (m : Move) (zs : List Row) (cs vs : List ℕ) (r : Answer) → ClaimedRow xs e l key site m zs → cs ≡ emptied_at ys m.clear → ends_is vs ≡ ends_of m.ends → r ≡ m.answer → outcome r zs cs vs ≡ stepped (claim site)
   claim_so site m zs cs vs r (by_look f p q) c v a = Step'.stayed_put xs ys ws e key l ends_are seen (stepped (claim site)) (number_of l) m zs cs vs r (Look'.unfit_step xs ys ws e key l ends_are seen (claim site) f) p q c v a
   claim_so site m zs cs vs r (by_site d f ec t p q) c v a = Step'.stayed_put xs ys ws e key l ends_are seen (stepped (claim site)) 4 m zs cs vs r (Step'.claim_out xs ys ws e key l ends_are seen site d ec f t) p q c v a
   claim_so site m zs cs vs r (seated d f ec t p q) c v a = Step'.claimed_in xs ys ws e key l ends_are seen site d ec f t zs cs vs r q (c ∙ ap (λ (x : Move). emptied_at ys x.clear) p) (v ∙ ap (λ (x : Move). ends_of x.ends) p) (a ∙ ap (λ (x : Move). x.answer) p)

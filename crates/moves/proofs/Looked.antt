@@ -3,12 +3,12 @@
 --     stepped_is, at_row   a call is decided by the look; by the row's part and cells where one was found
 --     no_step, unfit_step  the refusals 1 to 3
 --     held_site, fit_site, look_room, seat_room   what the next functions ask: a site within degrees, a row's cells among all
+use Rattle.std.specs.Prelude.{Option, None, Some}
 use mathlib.Core.Path.{◌≡◌, refl, sym, ◌∙◌, ap, ap₂, subst}
 use Prim.Native.Nat.{ℕ, zero, suc, ◌<◌, ◌≤◌, ◌+◌, ◌*◌}
 use native.Mathlib.Omega.{arith}
 use native.Mathlib.Nat.{mul-le-mul_left}
 use mathlib.Core.Bool.{true, false, cond}
-use mathlib.Core.Option.{Option, none, some}
 use mathlib.Core.List.{List, [], ◌∷◌, map}
 use lib.Dec.{eqb}
 use lib.ListN.{length, get_or, take, drop, get_or-eq_default}
@@ -53,8 +53,8 @@ by_look w k a (L.No n) = cond (eqb n 3) (on_none kind siting w k (kind a) (row_a
 by_look w k a (L.At i) = on_row kind siting w i k (kind a) (row_act k (body_at form w i) a)
 
 located_by : (w : Watch Part) (k : M.Key) (a : Act) (o : Option ℕ) → located kind siting w k a o ≡ by_look w k a (found_is o)
-located_by w k a none = refl
-located_by w k a (some i) = refl
+located_by w k a None = refl
+located_by w k a (Some i) = refl
 
 step_by : (w : Watch Part) (k : M.Key) (a : Act) → call_on w k a ≡ by_look w k a (looked_in w k)
 step_by w k a =
@@ -74,7 +74,7 @@ one_look e = cc
 record HeldAt (w : Watch Part) (k : M.Key) (i : ℕ) : Type 0 where
   one : question1 form w ≡ true
   two : question2 form w ≡ true
-  search : find_row unmade_part w.rows (length w.rows) k w.ends.head ≡ some i
+  search : find_row unmade_part w.rows (length w.rows) k w.ends.head ≡ Some i
 
 held_at : (w : Watch Part) (k : M.Key) (i : ℕ) → L.At i ≡ looked_in w k → HeldAt w k i
 held_at w k i e =
@@ -84,9 +84,9 @@ held_at w k i e =
     (λ q. no_look (rw (p, q) at e)))
     (λ p. no_look (rw p at e))
   where
-    go : (o : Option ℕ) → L.At i ≡ found_is o → o ≡ some i
-    go none h = no_look h
-    go (some j) h = ap some (sym (one_look h))
+    go : (o : Option ℕ) → L.At i ≡ found_is o → o ≡ Some i
+    go None h = no_look h
+    go (Some j) h = ap Some (sym (one_look h))
 
 -- questions 1 and 2 were passed
 pub record Passed (w : Watch Part) : Type 0 where
@@ -100,7 +100,7 @@ passed w k e =
     (λ p. clash refl (rw p at e))
 
 -- the row that a search finds has the key
-key_at_lem : (rows : List (T.Row Part)) (f : ℕ) (k : M.Key) (at i : ℕ) → find_row unmade_part rows f k at ≡ some i → same k (row_at unmade_part rows i).key ≡ true
+key_at_lem : (rows : List (T.Row Part)) (f : ℕ) (k : M.Key) (at i : ℕ) → find_row unmade_part rows f k at ≡ Some i → same k (row_at unmade_part rows i).key ≡ true
 key_at_lem rows zero k at i e = let z : ◌≡◌ {A = ℕ} 0 1 = cc in absurd (omega arith)
 key_at_lem rows (suc f) k at i e =
     by_bool (eqb at NONE) (λ p. none_some (rw p at e))
@@ -108,10 +108,10 @@ key_at_lem rows (suc f) k at i e =
     (λ q. subst (λ (j : ℕ). same k (row_at unmade_part rows j).key ≡ true) (some_eq (rw (p, q) at e)) q)
     (λ q. key_at_lem rows f k (row_at unmade_part rows at).next i (rw (p, q) at e)))
   where
-    none_some : {X : Type 0} → ◌≡◌ {A = Option ℕ} none (some i) → X
+    none_some : {X : Type 0} → ◌≡◌ {A = Option ℕ} None (Some i) → X
     none_some h = let z : ◌≡◌ {A = ℕ} 0 1 = cc in absurd (omega arith)
 
-    some_eq : some at ≡ some i → at ≡ i
+    some_eq : Some at ≡ Some i → at ≡ i
     some_eq h = cc
 
 pub at_l : (z : Look) → is_no z ≡ false → z ≡ L.At (at_of z)

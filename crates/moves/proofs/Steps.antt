@@ -1,10 +1,12 @@
 -- What a call comes to on the row that was found, on a fresh one, or on the oldest, is the definitions' step; and what was decided on values is what the definitions
 -- decide. Facts on lists alone; the laws of the ways out (Entries) cite these.
+use Rattle.std.specs.Prelude.{Some, None, Option}
+use Rattle.sites.specs.declared.Site.{Site}
+use Rattle.verdicts.specs.declared.Verdict.{Verdict}
 use mathlib.Core.Path.{◌≡◌, refl, sym, ◌∙◌, ap, ap₂, subst}
 use Prim.Native.Nat.{ℕ, ◌≤◌, ◌+◌, ◌*◌}
 use native.Mathlib.Omega.{arith}
 use mathlib.Core.Bool.{Bool, true, false, cond}
-use mathlib.Core.Option.{Option, none, some}
 use mathlib.Core.List.{List, map}
 use lib.Dec.{eqb}
 use lib.ListN.{length, get_or, set, take, drop, length-set}
@@ -19,13 +21,10 @@ use Rattle.table.specs.Watch.{Body, fresh_body, put_body, touch, free_row, pushe
 use Rattle.table.proofs.Tests.{by_bool, clash}
 use Rattle.table.proofs.Cells.{cells_same}
 use Rattle.table.proofs.Stores.{back_same, put_unchanged}
-use Rattle.sites.specs.declared.Claimed.{Claimed}
 use Rattle.near_field.specs.declared.Judgment.{Judgment}
 use Rattle.heard.specs.declared.Heard.{Heard}
 use Rattle.receiver.specs.declared.Part.{Part}
 use Rattle.heard.specs.declared.Position.{Position}
-use Rattle.verdicts.specs.declared.Judged.{Judged}
-use Rattle.verdicts.specs.declared.Judged.TheVariants.{With, Never}
 use Rattle.heard.specs.declared.Claiming.{Claiming}
 use Rattle.heard.specs.declared.Claiming.TheVariants as Claimings
 use Rattle.heard.specs.declared.Hearing.{Hearing}
@@ -143,9 +142,9 @@ module _ (xs : List Row) (ys ws : List ℕ) (e : Ends) (key : Key) (l : Look) (e
             ap (λ (b : Body Part). put_body form w i k b) (sym (Look'.body_is xs ys ws e key l ends_are seen no))
             ∙ put_unchanged form w i k (Look'.key_same xs ys ws e key l ends_are seen no) (Look'.within xs ys ws e key l ends_are seen no) (Look'.sizes xs ys ws e key l ends_are seen fit).cells
 
-        go : (z : Judged) → (get_or xs i blank).part.verdict ≡ z → r ≡ check_answer z → outcome r xs ys ws₁ ≡ stepped check
-        go Never q t = Look'.refuses xs ys ws e key l ends_are seen (stepped check) 7 ws₁ r (refused_by check 7 (rw q)) u t
-        go (With x) q t = step_of (Look'.unchanged xs ys ws e key l ends_are seen ws₁ u ∙ sym stays) (ap answer_is t) ∙ sym (accepts check (body_of xs ys i) (says (says_verdict x)) (rw q))
+        go : (z : Option Verdict) → (get_or xs i blank).part.verdict ≡ z → r ≡ check_answer z → outcome r xs ys ws₁ ≡ stepped check
+        go None q t = Look'.refuses xs ys ws e key l ends_are seen (stepped check) 7 ws₁ r (refused_by check 7 (rw q)) u t
+        go (Some x) q t = step_of (Look'.unchanged xs ys ws e key l ends_are seen ws₁ u ∙ sym stays) (ap answer_is t) ∙ sym (accepts check (body_of xs ys i) (says (says_verdict x)) (rw q))
 
     -- the row's part and cells are stored
     put_part : (q : Part) (cs : List ℕ) → watch_of (parted_rows xs i q) (sets ys (width * i) cs) e ≡ put_body form w i k (record { part = q; cells = cs })
@@ -203,7 +202,7 @@ module _ (xs : List Row) (ys ws : List ℕ) (e : Ends) (key : Key) (l : Look) (e
   abbrev cells₁ : List ℕ
   cells₁ = cond (eqb e.free NONE) (sets ys (width * e.head) empty_cells) ys
 
-  module _ (site : Claimed) (c : Claiming) (ec : (m : List ℕ) → claiming_is c m ≡ claimed (get_or xs (at_of l) blank).part.heard m site) where
+  module _ (site : Option Site) (c : Claiming) (ec : (m : List ℕ) → claiming_is c m ≡ claimed (get_or xs (at_of l) blank).part.heard m site) where
     claimed_as : (m : List ℕ) → row_act k (record { part = (get_or xs (at_of l) blank).part; cells = m }) (claim site) ≡ claim_done (get_or xs (at_of l) blank).part (claiming_is c m)
     claimed_as m = ap (λ (o : Outcome (Body Heard) Moved). claim_done (get_or xs (at_of l) blank).part o) (sym (ec m))
 
@@ -319,8 +318,8 @@ module _ (xs : List Row) (ys ws : List ℕ) (e : Ends) (key : Key) (l : Look) (e
   drop_is = ap drop_oldest (Look'.watch_same xs ys ws e key l ends_are seen)
 
   found_fits : (o : Option ℕ) → is_unfit (found_is o) ≡ false
-  found_fits none = refl
-  found_fits (some j) = refl
+  found_fits None = refl
+  found_fits (Some j) = refl
 
   pub drop_unfit : is_unfit l ≡ true → drop_oldest w ≡ refusal w (number_of l)
   drop_unfit h = go (subst (λ (z : Look). is_unfit z ≡ true) (seen ys refl) h) ∙ ap {B = Step (Watch Part) Out} (λ z. refusal w (number_of z)) (sym (seen ys refl))
@@ -339,14 +338,14 @@ module _ (xs : List Row) (ys ws : List ℕ) (e : Ends) (key : Key) (l : Look) (e
   dropped_one fit used zs cs vs r p q t v =
       step_of (exits ∙ free_is_lem xs ys e e.head (Look'.small xs ys ws e key l ends_are seen fit)) answers ∙ sym (drop_is ∙ accepted)
     where
-      accepted : drop_oldest w ≡ record { next = free_row form w e.head; answer = said none (freed (row_at unmade_part (map row_is xs) e.head).key) }
+      accepted : drop_oldest w ≡ record { next = free_row form w e.head; answer = said None (freed (row_at unmade_part (map row_is xs) e.head).key) }
       accepted = let g = Look'.pass xs ys ws e key l ends_are seen fit in rw (g.one, g.two, used)
 
       exits : watch_is zs cs vs ≡ watch_of (released_rows xs e e.head) (sets ys (width * e.head) empty_cells) (released_ends xs e e.head)
       exits = rw (t, p, q)
 
-      answers : answer_is r ≡ said none (freed (row_at unmade_part (map row_is xs) e.head).key)
-      answers = ap answer_is v ∙ ap (λ (x : M.Key). said none (freed x)) (ap (λ (x : T.Row Part). x.key) (sym (row_is_lem xs e.head)))
+      answers : answer_is r ≡ said None (freed (row_at unmade_part (map row_is xs) e.head).key)
+      answers = ap answer_is v ∙ ap (λ (x : M.Key). said None (freed x)) (ap (λ (x : T.Row Part). x.key) (sym (row_is_lem xs e.head)))
 
   -- a call that was refused on the rows
   pub stayed_put : (s : Step (Watch Part) Out) (n : ℕ) (m : Move) (zs : List Row) (cs vs : List ℕ) (r : Answer) → s ≡ refusal w n → m ≡ staying e (saying (Wd.Refused n)) → zs ≡ xs → cs ≡ emptied_at ys m.clear → ends_is vs ≡ ends_of m.ends → r ≡ m.answer → outcome r zs cs vs ≡ s

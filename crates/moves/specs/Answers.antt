@@ -1,12 +1,10 @@
 -- What an answer says, and what a call comes to: for each word the documents' number and its values (01, 'Seven calls, seven questions'). Definitions only.
-use Rattle.std.specs.Prelude.{ℕ, false, cond, List}
-use Rattle.std.proofs.Math.Option.{Option, none, some}
+use Rattle.verdicts.specs.declared.Verdict.{Verdict}
+use Rattle.std.specs.Prelude.{ℕ, false, cond, List, Some, None, Option}
 use Rattle.table.specs.Machine as M
 use Rattle.table.specs.Machine.{Step, refused, said}
 use Rattle.table.specs.Rows.{Watch, zero_key}
 use Rattle.receiver.specs.declared.Part.{Part}
-use Rattle.verdicts.specs.declared.Judged.{Judged}
-use Rattle.verdicts.specs.declared.Judged.TheVariants.{With, Never}
 use Rattle.heard.specs.declared.Claiming.{Claiming}
 use Rattle.heard.specs.declared.Hearing.{Hearing}
 use Rattle.heard.specs.declared.Hearing.TheVariants as Hearings
@@ -26,13 +24,13 @@ use Rattle.bodies.specs.Bodies.{heard_of}
 abbrev pub answered : Word → M.Key → Option M.Key → M.Answer Out
 answered (Wd.Refused n) k p = refused n
 answered (Wd.Generation g) k p = said p (generation_is g)
-answered (Wd.Judged j) k p = said none (judgment_is j)
-answered (Wd.Says s) k p = said none (says s)
-answered Wd.Freed k p = said none (freed k)
-answered Wd.Done k p = said none done
+answered (Wd.Judged j) k p = said None (judgment_is j)
+answered (Wd.Says s) k p = said None (says s)
+answered Wd.Freed k p = said None (freed k)
+answered Wd.Done k p = said None done
 
 abbrev pub answer_is : Answer → M.Answer Out
-answer_is a = answered a.word a.key (cond a.pushed (some a.key) none)
+answer_is a = answered a.word a.key (cond a.pushed (Some a.key) None)
 
 -- WHAT A CALL COMES TO: the watch that it leaves, and its answer
 abbrev pub outcome : Answer → List Row → List ℕ → List ℕ → Step (Watch Part) Out
@@ -48,9 +46,9 @@ saying v = record { word = v; pushed = false; key = zero_key }
 abbrev pub freeing : M.Key → Answer
 freeing k = record { word = Wd.Freed; pushed = false; key = k }
 
-abbrev pub check_answer : Judged → Answer
-check_answer (With v) = saying (Wd.Says (says_verdict v))
-check_answer Never = saying (Wd.Refused 7)
+abbrev pub check_answer : Option Verdict → Answer
+check_answer (Some v) = saying (Wd.Says (says_verdict v))
+check_answer None = saying (Wd.Refused 7)
 
 -- A CLAIM, DECIDED
 abbrev pub claim_answer : Seat → Claiming → Answer

@@ -1,11 +1,11 @@
 -- What the calls come to on the rows alone, by the row that was found or the number of the first no. Definitions only; proofs/Entries shows them to be
 -- the definitions' calls.
-use Rattle.std.specs.Prelude.{◌≡◌, ℕ, ◌*◌, true, false, cond, ◌||◌, List, eqb, get_or, set, take, drop}
+use Rattle.sites.specs.declared.Site.{Site}
+use Rattle.verdicts.specs.declared.Verdict.{Verdict}
+use Rattle.std.specs.Prelude.{◌≡◌, ℕ, ◌*◌, true, false, cond, ◌||◌, List, eqb, get_or, set, take, drop, Option}
 use Rattle.std.proofs.lemmas.List.Edits.{sets}
 use Rattle.table.specs.Rows.{NONE}
-use Rattle.sites.specs.declared.Claimed.{Claimed}
 use Rattle.near_field.specs.declared.Judgment.{Judgment}
-use Rattle.verdicts.specs.declared.Judged.{Judged}
 use Rattle.heard.specs.declared.Position.{Position}
 use Rattle.heard.specs.declared.Claiming.{Claiming}
 use Rattle.heard.specs.Heard.{width, claimed, positioned}
@@ -42,7 +42,7 @@ abbrev pub oldest_look : Look → Ends → Look
 oldest_look l e = cond (is_unfit l) l (cond (eqb e.head NONE) (L.No 3) (L.At e.head))
 
 -- CHECK
-abbrev pub checked_as : Look → Judged → Answer
+abbrev pub checked_as : Look → Option Verdict → Answer
 checked_as (L.No n) v = saying (Wd.Refused n)
 checked_as (L.At i) v = check_answer v
 
@@ -63,7 +63,7 @@ abbrev pub seat_move : Seat → Claiming → Move
 seat_move s c = record { ends = s.ends; clear = clear_of s c; answer = claim_answer s c }
 
 -- refused by the look, by the claim; or accepted
-pub data ClaimedRow (xs : List Row) (e : Ends) (l : Look) (k : Key) (site : Claimed) (m : Move) (zs : List Row) : Type 0 where
+pub data ClaimedRow (xs : List Row) (e : Ends) (l : Look) (k : Key) (site : Option Site) (m : Move) (zs : List Row) : Type 0 where
   by_look : is_unfit l ≡ true → m ≡ staying e (saying (Wd.Refused (number_of l))) → zs ≡ xs → ClaimedRow xs e l k site m zs
   by_site : (c : Claiming) → is_unfit l ≡ false → ((n : List ℕ) → claiming_is c n ≡ claimed (get_or xs (at_of l) blank).part.heard n site) → is_refused c ≡ true → m ≡ staying e (saying (Wd.Refused 4)) → zs ≡ xs → ClaimedRow xs e l k site m zs
   seated : (c : Claiming) → is_unfit l ≡ false → ((n : List ℕ) → claiming_is c n ≡ claimed (get_or xs (at_of l) blank).part.heard n site) → is_refused c ≡ false → m ≡ seat_move (seat_of xs e l (claim_part (get_or xs (at_of l) blank).part c)) c → zs ≡ seated_rows xs e l k (claim_part (get_or xs (at_of l) blank).part c) → ClaimedRow xs e l k site m zs

@@ -15,7 +15,7 @@ use heard::{Claiming, Hearing};
 use near_field::Judgment;
 use rows::{Row, Seat};
 use scans::{Ends, Key, Look};
-use verdicts::{CheckState, Judged};
+use verdicts::{CheckState, Verdict};
 
 // The question that was answered no; or what the call says.
 #[derive(Clone, Copy)]
@@ -303,8 +303,8 @@ pub fn check_answer(row: Row) -> Answer
     let part = row.part;
     let verdict = part.verdict;
     match verdict {
-        Judged::With(v) => say(Word::Says(verdicts::says(v))),
-        Judged::Never => refused(7),
+        Some(v) => say(Word::Says(verdicts::says(v))),
+        None => refused(7),
     }
 }
 

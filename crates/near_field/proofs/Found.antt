@@ -7,17 +7,23 @@ use native.Mathlib.Omega.{arith}
 use borrow.Author.Tests.{lt-ltb, le-ltb, le-leb, lt-leb, ne_eqb}
 use lib.Count.{ones}
 use lib.Dec.{leb, ltb, eqb, leb-suc-suc}
+use Rattle.std.proofs.Math.Bool.{and-true, and-false}
 use Rattle.cells.specs.Passes.{how_many}
 use Rattle.cells.proofs.Passes.{pass_none, pass_next}
+use lib.ListN.{length}
+use Rattle.view.specs.View.{occupied_among}
 use Rattle.near_field.specs.Sorted.{sorted, nth}
 use Rattle.plane.specs.Plane.{square, apart, east_of, north_of, dist, from_site, within25}
 use Rattle.around.specs.Marks.{occ, near, marks_of, bits_in, around_of, sectors_in}
 use Rattle.near_field.specs.Near.{cells_within, cell_distances, no_hole, found, cells_around, better, best_of, member}
 use Rattle.near_field.proofs.Sorted.{those_length, those_nth}
 use Rattle.around.proofs.Counts.{some_at}
-use Rattle.around.proofs.Marked.{and_true, and_false}
 
 -- ---- cells within a distance of the site
+pub all_counted : (g : List ℕ) (n : ℕ) → length g ≡ 1600 → n ≡ occupied_among g (length g) → n ≡ how_many (occ g) 1600
+unfolding occupied_among
+all_counted g n e h = h ∙ ap (how_many (occ g)) e
+
 -- with three cells or more, the third nearest is under 6 half cells away where three are at most √35 away
 pub hole_many : (g : List ℕ) (n m : ℕ) → n ≡ how_many (occ g) 1600 → 3 ≤ n → m ≡ cells_within g 35 → leb 3 m ≡ no_hole g
 unfolding no_hole cell_distances square
@@ -121,14 +127,14 @@ best_cells g i at cells n at' cells' l m f ea ec = by (ltb cells n) refl (found 
 -- ---- members
 pub member_far : (g : List ℕ) (best i d : ℕ) → d ≡ dist (east_of i) (north_of i) (east_of best) (north_of best) → 100 < d → false ≡ member g best i
 unfolding member
-member_far g best i d e h = rw (lt-leb (dist (east_of i) (north_of i) (east_of best) (north_of best)) 100 (rw e at h)) (sym (and_false (found g i)))
+member_far g best i d e h = rw (lt-leb (dist (east_of i) (north_of i) (east_of best) (north_of best)) 100 (rw e at h)) (sym (and-false (found g i)))
 
 pub member_near :
     (g : List ℕ) (best i d n : ℕ) → i < 1600 → d ≡ dist (east_of i) (north_of i) (east_of best) (north_of best) → d ≤ 100 → n ≡ found_cells g i
     → ltb 0 n ≡ member g best i
 unfolding member
 member_near g best i d n l e h f =
-    rw (le-leb (dist (east_of i) (north_of i) (east_of best) (north_of best)) 100 (rw e at h)) (ap (ltb 0) f ∙ by (found g i) refl ∙ sym (and_true (found g i))) where
+    rw (le-leb (dist (east_of i) (north_of i) (east_of best) (north_of best)) 100 (rw e at h)) (ap (ltb 0) f ∙ by (found g i) refl ∙ sym (and-true (found g i))) where
       by : (u : Bool) → found g i ≡ u → ltb 0 (cond u (cells_around g i) 0) ≡ u
       by true q = lt-ltb 0 (cells_around g i) (own_cell g i l q)
       by false q = refl

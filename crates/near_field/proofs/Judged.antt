@@ -1,18 +1,18 @@
 -- The near field's answers, one law for each way. Assumes nothing.
 use mathlib.Core.Path.{◌≡◌, refl, sym, ap}
-use mathlib.Core.Bool.{◌&&◌, ◌||◌, Bool, true, false, cond}
+use mathlib.Core.Bool.{◌&&◌, Bool, true, false, cond}
 use mathlib.Core.List.{List, [], ◌∷◌}
-use Prim.Native.Nat.{ℕ, zero, suc, ◌*◌, ◌≤◌, ◌<◌}
+use Prim.Native.Nat.{ℕ, ◌*◌, ◌≤◌, ◌<◌}
 use native.Mathlib.Omega.{arith}
 use borrow.Author.Tests.{lt-ltb, le-ltb, le-leb, lt-leb, eq-eqb, ne_eqb}
-use lib.Dec.{leb, ltb, eqb}
+use lib.Dec.{leb, eqb}
 use Rattle.cells.specs.Passes.{pass, some, table}
 use Rattle.cells.proofs.Passes.{pass_all, some_none, table_same}
 use Rattle.view.specs.View.{Unheard}
 use Rattle.near_field.specs.Sorted.{those}
 use Rattle.plane.specs.Plane.{square, said, from_site}
 use Rattle.around.specs.Marks.{occ, near, in_sector, marks_of, around_of, sectors_in}
-use Rattle.near_field.specs.Near.{cell_distances, no_hole, better, best_of, members, mean_square, found_of, best_or_none, near_field_by, found, cells_around}
+use Rattle.near_field.specs.Near.{cell_distances, no_hole, best_of, members, mean_square, found_of, best_or_none, near_field_by}
 use Rattle.near_field.specs.declared.Judgment.TheVariants.{Unjudged, Fits, Wrong}
 use Rattle.near_field.specs.declared.Evidence.TheVariants.{NearField}
 
@@ -73,23 +73,6 @@ no_best scale g b e = rw (eq-eqb b 1600 e)
 pub a_best : (scale : ℕ) (g : List ℕ) (b : ℕ) → (b ≡ 1600 → ⊥) → found_of scale g b ≡ best_or_none scale g b
 unfolding best_or_none
 a_best scale g b d = rw (ne_eqb b 1600 d)
-
-chosen_le : (t : Bool) (i b : ℕ) → i < 1600 → b ≤ 1600 → cond t i b ≤ 1600
-chosen_le true i b h l = omega arith
-chosen_le false i b h l = l
-
-pub best_le : (g : List ℕ) (n : ℕ) → n ≤ 1600 → best_of g n ≤ 1600
-unfolding pass better
-best_le g zero h = omega arith
-best_le g (suc n) h =
-    chosen_le (found g n && (eqb (best_of g n) 1600 || ltb (cells_around g (best_of g n)) (cells_around g n))) n (best_of g n) (omega arith)
-    (best_le g n (omega arith))
-
-not_it : (b : ℕ) → b ≤ 1600 → (b ≡ 1600 → ⊥) → b < 1600
-not_it b l d = omega arith
-
-pub best_below : (g : List ℕ) (b : ℕ) → b ≡ best_of g 1600 → (b ≡ 1600 → ⊥) → b < 1600
-best_below g b e d = let l = best_le g 1600 (omega arith) in not_it b (omega arith) d
 
 pub mean_under : (scale : ℕ) (g : List ℕ) (best m n : ℕ) → m ≡ mean_square g best → n ≡ members g best → m < 10 * n * (10 * n) → Unjudged ≡ found_of scale g best
 unfolding found_of square

@@ -9,9 +9,9 @@ use native.Mathlib.Omega.{arith}
 use borrow.Author.Tests.{lt-ltb, le-ltb, ltb-true, ltb-false, lt-leb, leb-true, leb-false}
 use lib.Dec.{leb, ltb}
 use lib.ListN.{length, get_or}
+use Rattle.std.proofs.Math.Bool.{and-true}
 use Rattle.cells.specs.Passes.{pass, how_many}
 use Rattle.near_field.specs.Sorted.{insert, ascending, sorted, nth, those}
-use Rattle.around.proofs.Marked.{and_true}
 
 -- two tests that hold together
 ltb_same : (m n a b : ℕ) → (m < n → a < b) → (n ≤ m → b ≤ a) → ltb m n ≡ ltb a b
@@ -127,7 +127,7 @@ module _ (p : ℕ → Bool) (f : ℕ → ℕ) (q r : ℕ → Bool) (same : (i : 
 
 module _ (p : ℕ → Bool) (f : ℕ → ℕ) (n : ℕ) where
   pub those_length : length (those p f n) ≡ how_many p n
-  those_length = length_where (those p f n) ∙ those_where p f (λ (x : ℕ). true) p (λ i. and_true (p i)) n
+  those_length = length_where (those p f n) ∙ those_where p f (λ (x : ℕ). true) p (λ i. and-true (p i)) n
 
   -- element k of those with p, ascending by f, is at most d where more than k of them are
   pub those_nth : (k d : ℕ) → k < how_many p n → leb (nth k (sorted (those p f n))) d ≡ ltb k (how_many (λ (i : ℕ). p i && leb (f i) d) n)

@@ -11,10 +11,10 @@ pub enum Judgment {
     Wrong { off_km: u32, by: Evidence },
 }
 
-// What found a site wrong.
+// What found a site wrong; C and the comparison runs are given its number.
 #[derive(Clone, Copy)]
 pub enum Evidence {
-    Horizon,
-    NearField,
-    NothingNear,
+    Horizon = 1,
+    NearField = 2,
+    NothingNear = 3,
 }

@@ -1,48 +1,29 @@
 // The near-field judgment.
-ghost use Rattle.std.specs.Prelude.{◌≡◌, cond, ◌&&◌, ◌≤◌, ◌<◌, leb, ltb};
-ghost use Rattle.cells.specs.Passes.{how_many, sum_of};
+ghost use Rattle.std.specs.Prelude.{◌≡◌, cond, ◌&&◌, ◌≤◌, ◌<◌, leb, unwrap_or, IfSome};
+ghost use Rattle.cells.specs.Passes.{sum_of};
 ghost use Rattle.cells.specs.Cells.{occupied_word};
 ghost use Rattle.plane.specs.Plane.{east_of, north_of, from_site};
-ghost use Rattle.around.specs.Marks.{occ};
 ghost use Rattle.around.specs.Counts.{counts_of};
 ghost use Rattle.near_field.specs.Near.{cells_within, no_hole, found, cells_around, best_of, member, members, found_of, near_field_by, near_field};
 
 use super::{Evidence, Judgment};
 use around::spans;
 
-// How many cells are occupied.
-pub fn occupied_cells(grid: &[u32; 1600]) -> u32
-    ensures { (result ≡ how_many (occ grid.now) 1600) × (result ≤ 1600) }
-{
-    let mut n: u32 = 0;
-    let mut i = 0;
-    while i < 1600 {
-        n += plane::part(cells::occupied(grid[i]), 1);
-        i += 1;
-    }
-    n
-}
-
 // Whether a cell is occupied and at most √bound half cells from the site.
 pub fn is_within(w: u32, i: usize, bound: u64) -> bool
     requires { i < 1600 }
     ensures { result ≡ (occupied_word w && leb (from_site i) bound) }
 {
-    if !cells::occupied(w) {
-        return false;
-    }
-    plane::distance(plane::east_of(i), plane::north_of(i), 40, 40) <= bound
+    cells::occupied(w) && plane::distance(plane::east_of(i), plane::north_of(i), 40, 40) <= bound
 }
 
 // How many such cells there are.
 pub fn cells_within(grid: &[u32; 1600], bound: u64) -> u32
     ensures { (result ≡ cells_within grid.now bound) × (result ≤ 1600) }
 {
-    let mut n: u32 = 0;
-    let mut i = 0;
-    while i < 1600 {
-        n += plane::part(is_within(grid[i], i, bound), 1);
-        i += 1;
+    let mut n = 0;
+    for (i, w) in grid.iter().enumerate() {
+        n += is_within(*w, i, bound) as u32;
     }
     n
 }
@@ -51,10 +32,7 @@ pub fn cells_within(grid: &[u32; 1600], bound: u64) -> u32
 pub fn no_hole(grid: &[u32; 1600]) -> bool
     ensures { result ≡ no_hole grid.now }
 {
-    if occupied_cells(grid) < 3 {
-        return true;
-    }
-    3 <= cells_within(grid, 35)
+    view::occupied_among(grid) < 3 || 3 <= cells_within(grid, 35)
 }
 
 // The cells around a found cell, and 0 for any other.
@@ -76,35 +54,21 @@ fn found_cells(grid: &[u32; 1600], heard: &[u32; 1601], i: usize) -> u32
     0
 }
 
-// The best cell so far (1,600: none yet), and the cells around it.
-#[derive(Clone, Copy)]
-struct Best {
-    pub at: usize,
-    pub cells: u32,
-}
-
-fn or_better(b: Best, i: usize, n: u32) -> Best
-    ensures { (result.at ≡ cond (ltb b.cells n) i b.at) × (result.cells ≡ cond (ltb b.cells n) n b.cells) }
-{
-    if b.cells < n {
-        Best { at: i, cells: n }
-    } else {
-        b
-    }
-}
-
-// The found cell with most cells around, the first of those; 1,600 where none is found.
-fn best_cell(grid: &[u32; 1600], heard: &[u32; 1601]) -> usize
+// The found cell with most cells around, the first of those, if one is found.
+fn best_cell(grid: &[u32; 1600], heard: &[u32; 1601]) -> Option<usize>
     requires { heard.now ≡ counts_of grid.now }
-    ensures { result ≡ best_of grid.now 1600 }
+    ensures { (unwrap_or result 1600 ≡ best_of grid.now 1600) × IfSome result (λ i. i < 1600) }
 {
-    let mut b = Best { at: 1600, cells: 0 };
-    let mut i = 0;
-    while i < 1600 {
-        b = or_better(b, i, found_cells(grid, heard, i));
-        i += 1;
+    let mut best = None;
+    let mut most = 0;
+    for i in 0..1600 {
+        let n = found_cells(grid, heard, i);
+        if most < n {
+            best = Some(i);
+            most = n;
+        }
     }
-    b.at
+    best
 }
 
 // Whether a cell is found, and within 25 km of the best.
@@ -118,10 +82,7 @@ fn is_member(grid: &[u32; 1600], heard: &[u32; 1601], best: usize, i: usize) -> 
         plane::east_of(best),
         plane::north_of(best),
     );
-    if 100 < d {
-        return false;
-    }
-    0 < found_cells(grid, heard, i)
+    d <= 100 && 0 < found_cells(grid, heard, i)
 }
 
 // How many members there are, and the sums of their easts and norths.
@@ -136,16 +97,15 @@ fn group_of(grid: &[u32; 1600], heard: &[u32; 1601], best: usize) -> Group
     requires { (best < 1600) × (heard.now ≡ counts_of grid.now) }
     ensures { (result.cells ≡ members grid.now best) × (result.east ≡ sum_of (member grid.now best) east_of 1600) × (result.north ≡ sum_of (member grid.now best) north_of 1600) × (result.cells ≤ 1600) × (result.east ≤ 126400) × (result.north ≤ 126400) }
 {
-    let mut n: u32 = 0;
-    let mut east: u32 = 0;
-    let mut north: u32 = 0;
-    let mut i = 0;
-    while i < 1600 {
-        let yes = is_member(grid, heard, best, i);
-        n += plane::part(yes, 1);
-        east += plane::part(yes, plane::east_of(i));
-        north += plane::part(yes, plane::north_of(i));
-        i += 1;
+    let mut n = 0;
+    let mut east = 0;
+    let mut north = 0;
+    for i in 0..1600 {
+        if is_member(grid, heard, best, i) {
+            n += 1;
+            east += plane::east_of(i);
+            north += plane::north_of(i);
+        }
     }
     Group {
         cells: n,
@@ -176,9 +136,7 @@ pub fn near_field_by(grid: &[u32; 1600], outside: bool, scale: u64) -> Judgment
     requires { scale ≤ 4 }
     ensures { result ≡ near_field_by scale grid.now outside }
 {
-    let a = around::around(grid, 40, 40);
-    let m = a.marks;
-    let s = around::sectors(m);
+    let s = around::sectors(around::around(grid, 40, 40).marks);
     if 5 <= s {
         return Judgment::Fits;
     }
@@ -192,11 +150,10 @@ pub fn near_field_by(grid: &[u32; 1600], outside: bool, scale: u64) -> Judgment
         return Judgment::Unjudged;
     }
     let heard = spans::heard_before(grid);
-    let best = best_cell(grid, &heard);
-    if best == 1600 {
-        return Judgment::Unjudged;
+    match best_cell(grid, &heard) {
+        Some(best) => found_at(grid, &heard, best, scale),
+        None => Judgment::Unjudged,
     }
-    found_at(grid, &heard, best, scale)
 }
 
 // The same for cells of 5 km.

@@ -14,7 +14,8 @@ use Rattle.cells.proofs.Passes.{pass_next, pass_skip}
 use Rattle.cells.specs.Cells.{count_of}
 use Rattle.cells.specs.Passes.{pass, sum_of}
 use Rattle.cells.proofs.Words.{count_small}
-use Rattle.nearest.specs.Counted.{positions_among, no_steps, gather, below, cell_step, bin_step, cell_steps}
+use Rattle.view.specs.View.{positions_among}
+use Rattle.nearest.specs.Counted.{no_steps, gather, below, cell_step, bin_step, cell_steps}
 use Rattle.nearest.proofs.Sums.{sum_next, sum_le, none_behind}
 use Rattle.nearest.proofs.Steps.{cell_below, bin_below}
 

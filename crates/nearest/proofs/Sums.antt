@@ -12,7 +12,7 @@ use Rattle.cells.specs.Cells.{count_of, occupied_word}
 use Rattle.cells.specs.Passes.{pass, sum_of}
 use Rattle.cells.proofs.Passes.{sum_step}
 use Rattle.cells.proofs.Words.{count_small}
-use Rattle.nearest.specs.Counted.{positions_among}
+use Rattle.view.specs.View.{positions_among}
 
 bounded : (b : Bool) (s k n : ℕ) → k ≤ 255 → s ≤ 255 * n → cond b (s + k) s ≤ 255 * suc n
 bounded true s k n h l = omega arith
@@ -41,15 +41,8 @@ sum_more p f m (suc n) l =
     (λ (lt : m < suc n). omega (arith, sum_more p f m n (omega arith), sum_next p f n))
     (eq-or-lt_of_le l)
 
-pub positions_fit : (words : List ℕ) (n : ℕ) → positions_among words n ≤ 255 * n
-unfolding positions_among
-positions_fit words n = sum_le (λ (i : ℕ). true) (λ (i : ℕ). count_of (get_or words i 0)) (λ i. count_small (get_or words i 0)) n
-
 -- ---- a loop that goes on until all positions are seen
 module _ (words : List ℕ) (j n : ℕ) where
-  pub some_left : j ≤ n → positions_among words j < positions_among words n → j < n
-  some_left le h = ⊎_elim (λ (e : j ≡ n). let z = ap (positions_among words) e in absurd (omega arith)) (λ (lt : j < n). lt) (eq-or-lt_of_le le)
-
   pub none_behind : positions_among words n ≤ positions_among words j → (i : ℕ) → j ≤ i → i < n → count_of (get_or words i 0) ≡ 0
   unfolding positions_among
   none_behind h i p q =

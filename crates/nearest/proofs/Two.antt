@@ -10,9 +10,10 @@ use native.Mathlib.Omega.{arith}
 use borrow.Author.Tests.{eqb-true, ltb-true, lt-ltb, le-ltb, le-leb, lt-leb}
 use lib.Dec.{ltb, eqb}
 use lib.ListN.{get_or}
+use Rattle.std.proofs.lemmas.Bool.{cases_lt}
 use Rattle.cells.specs.Cells.{count_of, occupied_word}
 use Rattle.cells.specs.Passes.{pass}
-use Rattle.cells.proofs.Passes.{lt_or_ge, pass_next, pass_skip, first_unique}
+use Rattle.cells.proofs.Passes.{pass_next, pass_skip, first_unique}
 use Rattle.plane.specs.Plane.{square, steps, east_of, north_of, apart, from_site}
 use Rattle.plane.proofs.Squares.{square_le}
 use Rattle.view.specs.declared.Far.{Far}
@@ -21,7 +22,8 @@ use Rattle.near_field.proofs.Sorted.{From, from_ascending}
 use Rattle.nearest.specs.declared.Spot.{Spot}
 use Rattle.nearest.specs.declared.Nearest.{Nearest}
 use Rattle.nearest.specs.Nothing.{Place, nearest_of, km, edges, cell_place, bin_place, heard, places_heard}
-use Rattle.nearest.specs.Counted.{positions_among, cell_step, bin_step, step_of, spot_of, no_place, cell_spot, bin_spot, first_two, two_nearest, put, nearer, nearest_among}
+use Rattle.view.specs.View.{positions_among}
+use Rattle.nearest.specs.Counted.{cell_step, bin_step, step_of, spot_of, no_place, cell_spot, bin_spot, first_two, two_nearest, put, nearer, nearest_among}
 use Rattle.nearest.proofs.Sums.{none_behind}
 use Rattle.nearest.proofs.Steps.{every, every_at}
 
@@ -53,7 +55,7 @@ module _ {A : Type 0} (key : A → ℕ) where
   either_first : (x a : A) (l : List A) → insert key x (insert_last a l) ≡ insert_last a (insert key x l)
   unfolding insert insert_last
   either_first x a [] =
-      ⊎_elim (λ (h : key a < key x). past x a [] h ∙ sym (last_before a x [] h)) (λ (h : key x ≤ key a). before x a [] h ∙ sym (last_past a x [] h)) (lt_or_ge (key a) (key x))
+      ⊎_elim (λ (h : key a < key x). past x a [] h ∙ sym (last_before a x [] h)) (λ (h : key x ≤ key a). before x a [] h ∙ sym (last_past a x [] h)) (cases_lt (key a) (key x))
   either_first x a (b ∷ l) =
       ⊎_elim
       (λ (ab : key a < key b).
@@ -64,10 +66,10 @@ module _ {A : Type 0} (key : A → ℕ) where
       ∙ ⊎_elim
       (λ (bx : key b < key x). ap (λ (m : List A). a ∷ m) (past x b l bx) ∙ sym (last_before a b (insert key x l) ab) ∙ sym (ap (insert_last a) (past x b l bx)))
       (λ (xb : key x ≤ key b). ap (λ (m : List A). a ∷ m) (before x b l xb) ∙ sym (last_before a x (b ∷ l) ax) ∙ sym (ap (insert_last a) (before x b l xb)))
-      (lt_or_ge (key b) (key x)))
+      (cases_lt (key b) (key x)))
       (λ (xa : key x ≤ key a).
       before x a (b ∷ l) xa ∙ sym (ap (λ (m : List A). x ∷ m) (last_before a b l ab)) ∙ sym (last_past a x (b ∷ l) xa) ∙ sym (ap (insert_last a) (before x b l (omega arith))))
-      (lt_or_ge (key a) (key x)))
+      (cases_lt (key a) (key x)))
       (λ (ba : key b ≤ key a).
       ap (insert key x) (last_past a b l ba)
       ∙ ⊎_elim
@@ -75,8 +77,8 @@ module _ {A : Type 0} (key : A → ℕ) where
       past x b (insert_last a l) bx ∙ ap (λ (m : List A). b ∷ m) (either_first x a l) ∙ sym (last_past a b (insert key x l) ba) ∙ sym (ap (insert_last a) (past x b l bx)))
       (λ (xb : key x ≤ key b).
       before x b (insert_last a l) xb ∙ sym (ap (λ (m : List A). x ∷ m) (last_past a b l ba)) ∙ sym (last_past a x (b ∷ l) (omega arith)) ∙ sym (ap (insert_last a) (before x b l xb)))
-      (lt_or_ge (key b) (key x)))
-      (lt_or_ge (key a) (key b))
+      (cases_lt (key b) (key x)))
+      (cases_lt (key a) (key b))
 
   ascending_last : (l : List A) (a : A) → ascending key (l ++ (a ∷ [])) ≡ insert_last a (ascending key l)
   unfolding ascending insert insert_last
@@ -90,14 +92,14 @@ two_put [] a f low = rw (lt-ltb (nearest_of a) 1048576 low)
 two_put (b ∷ []) a f low =
     ⊎_elim (λ (h : nearest_of a < nearest_of b). rw (lt-ltb (nearest_of a) (nearest_of b) h, lt-ltb (nearest_of a) 1048576 low))
     (λ (h : nearest_of b ≤ nearest_of a). rw (le-ltb (nearest_of a) (nearest_of b) h, lt-ltb (nearest_of a) 1048576 low))
-    (lt_or_ge (nearest_of a) (nearest_of b))
+    (cases_lt (nearest_of a) (nearest_of b))
 two_put (b ∷ c ∷ l) a f low =
     ⊎_elim (λ (h : nearest_of a < nearest_of b). rw (lt-ltb (nearest_of a) (nearest_of b) h, lt-ltb (nearest_of a) (nearest_of c) (omega (arith, f.1.0))))
     (λ (h : nearest_of b ≤ nearest_of a).
     ⊎_elim (λ (g : nearest_of a < nearest_of c). rw (le-ltb (nearest_of a) (nearest_of b) h, lt-ltb (nearest_of a) (nearest_of c) g))
     (λ (g : nearest_of c ≤ nearest_of a). rw (le-ltb (nearest_of a) (nearest_of b) h, le-ltb (nearest_of a) (nearest_of c) g))
-    (lt_or_ge (nearest_of a) (nearest_of c)))
-    (lt_or_ge (nearest_of a) (nearest_of b))
+    (cases_lt (nearest_of a) (nearest_of c)))
+    (cases_lt (nearest_of a) (nearest_of b))
 
 two_more : (l : List Place) (a : Place) → nearest_of a < 1048576 → nearer (two_nearest l) (spot_of a) ≡ two_nearest (l ++ (a ∷ []))
 unfolding two_nearest

@@ -9,10 +9,6 @@ use Rattle.nearest.specs.declared.Spot.{Spot}
 use Rattle.nearest.specs.declared.Nearest.{Nearest}
 use Rattle.nearest.specs.Nothing.{Place, nearest_of, typical_of, positions_of, km, edges, halfway}
 
--- the positions of the first n words
-unfoldable pub positions_among : List ℕ → ℕ → ℕ
-positions_among words n = sum_of (λ (i : ℕ). true) (λ (i : ℕ). count_of (get_or words i 0)) n
-
 -- a typical distance in steps of 5 km
 unfoldable pub cell_step : ℕ → ℕ
 cell_step i = steps (from_site i) 1

@@ -1,6 +1,6 @@
 -- Nothing near (01, "A judging", 3; 02, Item 2), over the list of places heard. Definitions only.
 -- Distances are squares of half cells of 2.5 km (01: Grid distances and the mean compare by whole squares).
-use Rattle.std.specs.Prelude.{ℕ, ◌+◌, ◌-◌, ◌*◌, ◌/◌, ◌%◌, min, ◌&&◌, cond, List, [], ◌∷◌, ◌++◌, leb, length, get_or, drop}
+use Rattle.std.specs.Prelude.{ℕ, ◌+◌, ◌-◌, ◌*◌, ◌/◌, ◌%◌, min, ◌&&◌, cond, List, [], ◌∷◌, ◌++◌, leb, length, get_or, drop, Some, None, Option}
 use Rattle.angles.specs.Sphere as bands
 use Rattle.cells.specs.Cells.{count_of, occupied_word}
 use Rattle.cells.specs.Passes.{pass}
@@ -8,8 +8,6 @@ use Rattle.view.specs.declared.Far.{Far}
 use Rattle.plane.specs.Plane.{square, from_site, said}
 use Rattle.near_field.specs.Sorted.{ascending}
 use Rattle.nearest.specs.Weights.{first_reaching, total}
-use Rattle.nearest.specs.declared.Empty.{Empty}
-use Rattle.nearest.specs.declared.Empty.TheVariants.{Off, Heard}
 
 -- a place heard: how far it is at the nearest, how far typically, and its positions
 pub record Place : Type 0 where
@@ -84,8 +82,8 @@ from_third l = drop (third_or_last l) (ascending nearest_of l)
 
 -- 01: Nothing near: 60 or more positions, and the third nearest place at least 60 km.
 -- Item 2: median and total are taken over the places from the third nearest on; the test for 60 positions still counts them all
-unfoldable pub nothing_near_in : List Place → Empty
-nothing_near_in l = cond (leb 60 (positions_in l) && leb (km 60) (third l).nearest) (Off (said (typical_in (from_third l)) 1)) Heard
+unfoldable pub nothing_near_in : List Place → Option ℕ
+nothing_near_in l = cond (leb 60 (positions_in l) && leb (km 60) (third l).nearest) (Some (said (typical_in (from_third l)) 1)) None
 
-unfoldable pub nothing_near : List ℕ → Far → Empty
+unfoldable pub nothing_near : List ℕ → Far → Option ℕ
 nothing_near grid far = nothing_near_in (places_heard grid far)

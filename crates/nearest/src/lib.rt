@@ -2,16 +2,10 @@
 // sorted here. What 01 calls nothing near is defined in specs/Nothing, over the list of all places, with its answer `Empty`.
 #![tactic(auto)]
 
-ghost use Rattle.std.specs.Prelude.{◌≡◌, List, [], ℕ, ◌+◌, ◌≤◌, ◌<◌, length, get_or, set};
+ghost use Rattle.std.specs.Prelude.{◌≡◌, List, [], ℕ, ◌+◌, ◌≤◌, ◌<◌, get_or, set};
 ghost use Rattle.cells.specs.Cells.{count_of};
-ghost use Rattle.nearest.specs.Counted.{positions_among, cell_step, bin_step, cell_steps, all_steps, cell_spot, bin_spot, two_nearest, put, nearer, nearest_among};
-
-// The distance said, km, where nothing is near.
-#[derive(Clone, Copy)]
-pub enum Empty {
-    Off(u32),
-    Heard,
-}
+ghost use Rattle.view.specs.View.{positions_among};
+ghost use Rattle.nearest.specs.Counted.{cell_step, bin_step, cell_steps, all_steps, cell_spot, bin_spot, two_nearest, put, nearer, nearest_among};
 
 // A place heard: the square of its nearest distance, half cells, the steps of its typical one, and its positions.
 #[derive(Clone, Copy)]
@@ -26,20 +20,6 @@ pub struct Spot {
 pub struct Nearest {
     pub first: Spot,
     pub second: Spot,
-}
-
-// The positions of some words.
-pub fn positions_among(words: &[u32]) -> u32
-    requires { length words.now ≤ 1600 }
-    ensures { (result ≡ positions_among words.now (length words.now)) × (result ≤ 408000) }
-{
-    let mut n: u32 = 0;
-    let mut i = 0;
-    while i < words.len() {
-        n += cells::count_of(words[i]);
-        i += 1;
-    }
-    n
 }
 
 // The steps that a cell's distance is said in.
@@ -70,7 +50,7 @@ fn gather_cell(at: &mut [u32; 161], w: u32, i: usize)
         return;
     }
     let k = cell_step(i);
-    at[k] = at[k] + n;
+    at[k] += n;
 }
 
 // The positions of the cells, by their steps.
@@ -78,10 +58,8 @@ pub fn cell_steps(grid: &[u32; 1600]) -> [u32; 161]
     ensures { result ≡ cell_steps grid.now }
 {
     let mut at = [0u32; 161];
-    let mut i = 0;
-    while i < 1600 {
-        gather_cell(&mut at, grid[i], i);
-        i += 1;
+    for (i, w) in grid.iter().enumerate() {
+        gather_cell(&mut at, *w, i);
     }
     at
 }
@@ -92,23 +70,22 @@ pub fn with_bins(cells: [u32; 161], bins: [u32; 72], positions: u32) -> [u32; 16
     ensures { (grid : List ℕ) → cells ≡ cell_steps grid → result ≡ all_steps grid bins }
 {
     let mut at = cells;
-    let mut seen: u32 = 0;
-    let mut j = 0;
-    while seen < positions {
-        let bin = j;
-        let w = bins[bin];
-        j += 1;
-        if cells::occupied(w) {
-            let k = bin_step(bin);
-            let n = cells::count_of(w);
-            at[k] = at[k] + n;
+    let mut seen = 0;
+    for (j, w) in bins.iter().enumerate() {
+        if positions <= seen {
+            return at;
+        }
+        if cells::occupied(*w) {
+            let k = bin_step(j);
+            let n = cells::count_of(*w);
+            at[k] += n;
             seen += n;
         }
     }
     at
 }
 
-// None is farther than any place, and has no positions.
+// None is farther than any place, and has no positions: so no comparison asks whether there is one.
 pub fn none_nearest() -> Nearest
     ensures { result ≡ two_nearest [] }
 {
@@ -127,15 +104,14 @@ pub fn none_nearest() -> Nearest
 fn put(near: Nearest, spot: Spot) -> Nearest
     ensures { result ≡ put near spot }
 {
-    let first = near.first;
-    if spot.nearest < first.nearest {
+    if spot.nearest < near.first.nearest {
         return Nearest {
             first: spot,
-            second: first,
+            second: near.first,
         };
     }
     Nearest {
-        first: first,
+        first: near.first,
         second: spot,
     }
 }
@@ -146,8 +122,7 @@ fn with_cell(near: Nearest, w: u32, i: usize) -> Nearest
     ensures { result ≡ nearer near (cell_spot w i) }
 {
     let d = plane::distance(plane::east_of(i), plane::north_of(i), 40, 40);
-    let second = near.second;
-    if d < second.nearest {
+    if d < near.second.nearest {
         return put(
             near,
             Spot {
@@ -168,8 +143,7 @@ fn with_bin(near: Nearest, w: u32, j: usize) -> Nearest
     ensures { result ≡ nearer near (bin_spot w j) }
 {
     let d = EDGES[j % 9];
-    let second = near.second;
-    if d < second.nearest {
+    if d < near.second.nearest {
         return put(
             near,
             Spot {
@@ -187,13 +161,9 @@ pub fn nearest_cells(grid: &[u32; 1600]) -> Nearest
     ensures { result ≡ nearest_among cell_spot grid.now (two_nearest []) 1600 }
 {
     let mut near = none_nearest();
-    let mut i = 0;
-    while i < 1600 {
-        let cell = i;
-        let w = grid[cell];
-        i += 1;
-        if cells::occupied(w) {
-            near = with_cell(near, w, cell);
+    for (i, w) in grid.iter().enumerate() {
+        if cells::occupied(*w) {
+            near = with_cell(near, *w, i);
         }
     }
     near
@@ -205,15 +175,14 @@ pub fn nearest_bins(places: Nearest, bins: [u32; 72], positions: u32) -> Nearest
     ensures { result ≡ nearest_among bin_spot bins places 72 }
 {
     let mut near = places;
-    let mut seen: u32 = 0;
-    let mut j = 0;
-    while seen < positions {
-        let bin = j;
-        let w = bins[bin];
-        j += 1;
-        if cells::occupied(w) {
-            near = with_bin(near, w, bin);
-            seen += cells::count_of(w);
+    let mut seen = 0;
+    for (j, w) in bins.iter().enumerate() {
+        if positions <= seen {
+            return near;
+        }
+        if cells::occupied(*w) {
+            near = with_bin(near, *w, j);
+            seen += cells::count_of(*w);
         }
     }
     near

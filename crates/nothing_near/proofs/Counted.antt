@@ -18,7 +18,7 @@ use Rattle.plane.specs.Plane.{square, from_site}
 use Rattle.near_field.specs.Near.{cells_within}
 use Rattle.near_field.proofs.Sorted.{sum_where, count_where, length_where, within}
 use Rattle.nearest.specs.Nothing.{Place, nearest_of, positions_of, km, edges, cell_place, bin_place, heard, places_heard, positions_in}
-use Rattle.nearest.specs.Counted.{positions_among}
+use Rattle.view.specs.View.{positions_among}
 use Rattle.nothing_near.specs.Counted.{near_cells}
 use Rattle.nothing_near.proofs.Weights.{sum_append, sum_one, total_where}
 use Rattle.nearest.proofs.Sums.{sum_next}

@@ -26,7 +26,7 @@ use Rattle.nothing_near.proofs.Weights.{where_more, total_where}
 use Rattle.nearest.proofs.Steps.{step_small}
 use Rattle.nearest.proofs.Gathered.{below_suc, raised, bins_below}
 use Rattle.nothing_near.proofs.Counted.{both_sums, only_occupied, positions_counted}
-use Rattle.nearest.proofs.Sums.{positions_fit}
+use Rattle.view.proofs.Views.{positions_fit}
 
 -- ---- the positions of some places by their steps
 abbrev step_below : ℕ → Place → Bool

@@ -15,7 +15,8 @@ use Rattle.view.specs.View.{Unheard}
 use Rattle.plane.specs.Plane.{north_of, apart, square, from_site}
 use Rattle.plane.proofs.Squares.{square_le}
 use Rattle.nearest.specs.Nothing.{Place, km, cell_place, heard}
-use Rattle.nearest.specs.Counted.{positions_among, cell_step, no_steps, gather, cell_steps}
+use Rattle.view.specs.View.{positions_among}
+use Rattle.nearest.specs.Counted.{cell_step, no_steps, gather, cell_steps}
 use Rattle.nothing_near.specs.Counted.{near_cells}
 use Rattle.nearest.proofs.Sums.{sum_next, sum_more}
 use Rattle.nearest.proofs.Gathered.{gather_none}

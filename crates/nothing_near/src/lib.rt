@@ -2,7 +2,7 @@
 // 60 km are counted, and of all positions, which crate `nearest` gathers by their steps, those of the two nearest are taken out.
 #![tactic(auto)]
 
-ghost use Rattle.std.specs.Prelude.{◌≡◌, List, ℕ, ◌-◌, ◌*◌, ◌≤◌, ◌<◌, min, max, ltb, get_or, set};
+ghost use Rattle.std.specs.Prelude.{◌≡◌, List, ℕ, ◌-◌, ◌≤◌, ◌<◌, min, ltb, get_or, set};
 ghost use Rattle.cells.specs.Passes.{first};
 ghost use Rattle.plane.specs.Plane.{steps};
 ghost use Rattle.view.specs.View.{Unheard};
@@ -11,32 +11,26 @@ ghost use Rattle.nearest.specs.Counted.{below};
 ghost use Rattle.nothing_near.specs.Counted.{near_cells, reached_at, Kept};
 
 use near_field::near;
-use nearest::{
-    Empty, Nearest, Spot, cell_steps, nearest_bins, nearest_cells, none_nearest, positions_among,
-    with_bins,
-};
+use nearest::{Nearest, Spot, cell_steps, nearest_bins, nearest_cells, none_nearest, with_bins};
 use view::Far;
 
 // How many places were heard.
 pub fn places_in(grid: &[u32; 1600], far: Far) -> u32
     ensures { result ≡ places grid.now far }
 {
-    let bins = far.cells;
-    view::occupied_among(grid) + view::occupied_among(&bins)
+    view::occupied_among(grid) + view::occupied_among(&far.cells)
 }
 
 // How many occupied cells are under 60 km away, but no more than three. Rows 0 to 7 and 32 to 39 have none.
 fn near_cells(grid: &[u32; 1600]) -> u32
     ensures { result ≡ min 3 (near_cells grid.now) }
 {
-    let mut n: u32 = 0;
-    let mut i = 320;
-    while i < 1280 {
-        n += plane::part(near::is_within(grid[i], i, 575), 1);
+    let mut n = 0;
+    for i in 320..1280 {
+        n += near::is_within(grid[i], i, 575) as u32;
         if n == 3 {
             return 3;
         }
-        i += 1;
     }
     n
 }
@@ -61,27 +55,23 @@ fn typical_steps(at: [u32; 161], total: u32) -> u32
     requires { (k : ℕ) → below at k ≤ 426360 }
     ensures { (result ≡ first (reached_at at total) 160) × (result ≤ 160) }
 {
-    let mut passed: u32 = 0;
-    let mut k = 0;
-    while k < 160 {
+    let mut passed = 0;
+    for k in 0..160 {
         passed += at[k];
         if total <= 2 * passed {
             return k as u32;
         }
-        k += 1;
     }
     160
 }
 
 // One place's positions taken out.
-fn without(steps: [u32; 161], spot: Spot) -> [u32; 161]
+fn without(mut steps: [u32; 161], spot: Spot) -> [u32; 161]
     requires { (spot.step < 161) × (spot.positions ≤ get_or steps spot.step 0) }
     ensures { result ≡ set steps spot.step (get_or steps spot.step 0 - spot.positions) }
 {
-    let mut at = steps;
-    let k = spot.step;
-    at[k] = at[k] - spot.positions;
-    at
+    steps[spot.step] -= spot.positions;
+    steps
 }
 
 // The steps of the typical distance from the third nearest place on: the nearest is left out unless it has all positions, and
@@ -103,43 +93,35 @@ fn steps_from_third(at: [u32; 161], total: u32, near: Nearest) -> u32
     typical_steps(without(later, second), left - second.positions)
 }
 
-// A number of steps, km: at least one step.
-fn steps_km(k: u32) -> u32
-    requires { k ≤ 160 }
-    ensures { result ≡ 5 * max 1 k }
-{
-    if k < 1 { 5 } else { k * 5 }
-}
-
 // The nothing-near distance, if nothing is near. The bins are summed here, so nothing is asked of `far.positions`.
-pub fn nothing_near(grid: &[u32; 1600], far: Far) -> Empty
+pub fn nothing_near(grid: &[u32; 1600], far: Far) -> Option<u32>
     ensures { result ≡ nothing_near grid.now far }
 {
     let bins = far.cells;
-    let inside = positions_among(grid);
-    let past = positions_among(&bins);
+    let inside = view::positions_among(grid);
+    let past = view::positions_among(&bins);
     let total = inside + past;
     if total < 60 {
-        return Empty::Heard;
+        return None;
     }
     if third_is_near(grid, far) {
-        return Empty::Heard;
+        return None;
     }
     let near = nearest_bins(nearest_cells(grid), bins, past);
     let k = steps_from_third(with_bins(cell_steps(grid), bins, past), total, near);
-    Empty::Off(steps_km(k))
+    Some(plane::steps_km(k))
 }
 
 // The same where no cell of the grid is occupied: no bin is near.
-pub fn nothing_near_far(far: Far) -> Empty
+pub fn nothing_near_far(far: Far) -> Option<u32>
     ensures { (grid : List ℕ) → Unheard grid → result ≡ nothing_near grid far }
 {
     let bins = far.cells;
-    let total = positions_among(&bins);
+    let total = view::positions_among(&bins);
     if 60 <= total {
         let near = nearest_bins(none_nearest(), bins, total);
         let k = steps_from_third(with_bins([0u32; 161], bins, total), total, near);
-        return Empty::Off(steps_km(k));
+        return Some(plane::steps_km(k));
     }
-    Empty::Heard
+    None
 }

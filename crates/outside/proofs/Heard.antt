@@ -3,29 +3,30 @@
 use mathlib.Core.Path.{◌≡◌, refl, sym, ap, ◌∙◌}
 use mathlib.Core.Bool.{Bool, true, false, ◌&&◌, ◌||◌, cond}
 use mathlib.Core.List.{List}
-use Prim.Native.Nat.{ℕ, ◌+◌, ◌*◌, ◌/◌, ◌≤◌, ◌<◌}
+use Prim.Native.Nat.{ℕ, zero, suc, ◌+◌, ◌*◌, ◌/◌, ◌≤◌, ◌<◌}
 use native.Mathlib.Numerals.{add-one}
 use native.Mathlib.Omega.{arith}
 use borrow.Author.Tests.{lt-ltb, le-ltb, ltb-true, ltb-false, eq-eqb, ne_eqb, eqb-true, eqb-false}
-use lib.Bits.{bit_or}
 use lib.Dec.{ltb, eqb}
 use lib.IntN.{pos, ◌-ℤ◌}
-use lib.ListN.{get_or, set, replicate}
+use lib.ListN.{length, get_or, set, replicate}
+use Rattle.std.proofs.Common.{slice_range}
+use Rattle.std.proofs.Math.Bool.{or-false, and-true, and-false}
 use Rattle.cells.specs.Cells.{occupied_word}
 use Rattle.cells.specs.Passes.{pass, some, table}
-use Rattle.cells.proofs.Words.{zero_free, both_occupied}
-use Rattle.cells.proofs.Passes.{some_next, some_turn, some_none, table_same}
-use Rattle.view.specs.View.{Unheard}
+use Rattle.cells.proofs.Passes.{some_next, some_none, table_same}
+use Rattle.view.specs.View.{Unheard, heard_word, heard_at}
+use Rattle.view.proofs.Views.{part_heard}
 use Rattle.plane.specs.Plane.{east_of, north_of, from_site, over3, sector_from}
 use Rattle.around.specs.Marks.{occ, in_sector, cell_in, bin_in}
 use Rattle.around.proofs.Counts.{count_skip}
 use Rattle.plane.proofs.Sectors.{sector_below}
-use Rattle.around.proofs.Marked.{or_false, and_true, and_false, mark_table}
+use Rattle.around.proofs.Marked.{mark_table}
 
 -- a cell, or a bin, more
 cell_more : (b o v e : Bool) → (b || (o && (v && e))) ≡ cond e (b || (o && v)) b
-cell_more b o v true = ap (λ (t : Bool). b || (o && t)) (and_true v)
-cell_more b o v false = ap (λ (t : Bool). b || (o && t)) (and_false v) ∙ ap (λ (t : Bool). b || t) (and_false o) ∙ or_false b
+cell_more b o v true = ap (λ (t : Bool). b || (o && t)) (and-true v)
+cell_more b o v false = ap (λ (t : Bool). b || (o && t)) (and-false v) ∙ ap (λ (t : Bool). b || t) (and-false o) ∙ or-false b
 
 pub cells_step :
     (g : List ℕ) (i w : ℕ) (ms r : List Bool) → w ≡ get_or g i 0 → ms ≡ table (λ (k : ℕ). some (cell_in g k) i) 8
@@ -43,20 +44,24 @@ cells_step g i w ms r ew em er =
 module _ (bins : List ℕ) (k : ℕ) where
   apart : (j : ℕ) → (j / 9 ≡ k → ⊥) → bin_in bins k j ≡ false
   unfolding bin_in
-  apart j h = rw (ne_eqb (j / 9) k h, and_false (occ bins j))
+  apart j h = rw (ne_eqb (j / 9) k h, and-false (occ bins j))
 
-  pub bins_before : occupied_word 0 ≡ some (bin_in bins k) (9 * k)
-  bins_before = zero_free ∙ sym (some_none (bin_in bins k) (9 * k) (λ j l. apart j (λ e. omega arith)))
-
-  pub bins_turn : (j all w : ℕ) → 9 * k ≤ j → j < 9 * k + 9 → occupied_word all ≡ some (bin_in bins k) j → w ≡ get_or bins j 0 → occupied_word (bit_or all w) ≡ some (bin_in bins k) (j + 1)
+  -- up to the m-th of them
+  up_to : (m : ℕ) → m ≤ 9 → some (bin_in bins k) (9 * k + m) ≡ some (heard_at bins (9 * k)) m
   unfolding bin_in
-  bins_turn j all w l m e h =
-      both_occupied all w ∙ ap (λ (b : Bool). b || occupied_word w) e
-      ∙ ap (λ (b : Bool). some (bin_in bins k) j || b) (ap occupied_word h ∙ sym (ap (λ (b : Bool). occ bins j && b) (eq-eqb (j / 9) k (omega arith)) ∙ and_true (occ bins j)))
-      ∙ sym (some_turn (bin_in bins k) j)
+  up_to zero l =
+      let e : 9 * k + zero ≡ 9 * k = omega arith in
+      ap (some (bin_in bins k)) e ∙ some_none (bin_in bins k) (9 * k) (λ j h. apart j (λ e. omega arith)) ∙ sym (some_none (heard_at bins (9 * k)) 0 (λ i h. absurd (omega arith)))
+  up_to (suc m) l =
+      let e : 9 * k + suc m ≡ suc (9 * k + m) = omega arith in
+      ap (some (bin_in bins k)) e ∙ some_next (bin_in bins k) (9 * k + m) ∙ ap (λ (b : Bool). b || bin_in bins k (9 * k + m)) (up_to m (omega arith))
+      ∙ ap (λ (b : Bool). some (heard_at bins (9 * k)) m || b) (ap (λ (b : Bool). occ bins (9 * k + m) && b) (eq-eqb ((9 * k + m) / 9) k (omega arith)) ∙ and-true (occ bins (9 * k + m)))
+      ∙ sym (some_next (heard_at bins (9 * k)) m)
 
-  pub bins_after : 9 * k + 9 ≤ 72 → some (bin_in bins k) (9 * k + 9) ≡ some (bin_in bins k) 72
-  bins_after l = ap (ltb 0) (sym (count_skip (bin_in bins k) (9 * k + 9) 72 l (λ j p q. apart j (λ e. omega arith))))
+  pub nine_heard : (end : ℕ) → 9 * k + 9 ≡ end → end ≤ 72 → length bins ≡ 72 → some (heard_word (slice_range bins (9 * k) end)) (length (slice_range bins (9 * k) end)) ≡ some (bin_in bins k) 72
+  nine_heard end e l n =
+      part_heard bins (9 * k) 9 end e (omega arith) ∙ sym (up_to 9 (omega arith))
+      ∙ ap (ltb 0) (sym (count_skip (bin_in bins k) (9 * k + 9) 72 (omega arith) (λ j p q. apart j (λ e. omega arith))))
 
 -- the sectors below k with what t says of them
 abbrev pub marked : (ℕ → Bool) → (ℕ → Bool) → ℕ → ℕ → Bool
@@ -64,7 +69,7 @@ marked f t k j = f j || (ltb j k && t j)
 
 module _ (f t : ℕ → Bool) where
   pub marked_none : (ms : List Bool) → ms ≡ table f 8 → ms ≡ table (marked f t 0) 8
-  marked_none ms e = e ∙ table_same f (marked f t 0) 8 (λ j l. sym (rw (le-ltb j 0 (omega arith), or_false (f j))))
+  marked_none ms e = e ∙ table_same f (marked f t 0) 8 (λ j l. sym (rw (le-ltb j 0 (omega arith), or-false (f j))))
 
   pub marked_more : (k : ℕ) (ms r : List Bool) → k < 8 → ms ≡ table (marked f t k) 8 → r ≡ cond (t k) (set ms k true) ms → r ≡ table (marked f t (k + 1)) 8
   marked_more k ms r l em er =
@@ -72,7 +77,7 @@ module _ (f t : ℕ → Bool) where
         by : (j : ℕ) (b : Bool) → eqb k j ≡ b → marked f t (k + 1) j ≡ cond b (marked f t k j || t k) (marked f t k j)
         by j true e =
             let q = eqb-true k j e in
-            rw (lt-ltb j (k + 1) (omega arith), le-ltb j k (omega arith), or_false (f j)) (ap (λ (i : ℕ). f j || t i) (sym q))
+            rw (lt-ltb j (k + 1) (omega arith), le-ltb j k (omega arith), or-false (f j)) (ap (λ (i : ℕ). f j || t i) (sym q))
         by j false e = ap (λ (b : Bool). f j || (b && t j)) (same_side j (eqb-false k j e)) where
           same_side : (j : ℕ) → (k ≡ j → ⊥) → ltb j (k + 1) ≡ ltb j k
           same_side j d = side (ltb j k) refl where
@@ -96,13 +101,3 @@ unheard_none g u =
     cells_none g
     ∙ table_same (λ (k : ℕ). some (cell_in g k) 0) (λ (k : ℕ). some (cell_in g k) 1600) 8
     (λ k l. some_none (cell_in g k) 0 (λ i l. absurd (omega arith)) ∙ sym (some_none (cell_in g k) 1600 (λ i l. ap (λ (b : Bool). b && in_sector 40 40 k i) (u i l))))
-
--- what the code tests of a cell, and what is then marked
-module _ (ms : List Bool) (w i d : ℕ) (o : occupied_word w ≡ true) (e : d ≡ from_site i) where
-  pub cell_far :
-      (k : ℕ) → 144 < 100 * d → k ≡ sector_from (east_of i) (north_of i) 40 40
-      → set ms k true ≡ cond (occupied_word w && over3 (from_site i)) (set ms (sector_from (east_of i) (north_of i) 40 40) true) ms
-  cell_far k h q = rw (o, lt-ltb 144 (100 * from_site i) (rw e at h)) (ap (λ (n : ℕ). set ms n true) q)
-
-  pub cell_near : 100 * d ≤ 144 → ms ≡ cond (occupied_word w && over3 (from_site i)) (set ms (sector_from (east_of i) (north_of i) 40 40) true) ms
-  cell_near h = rw (o, le-ltb 144 (100 * from_site i) (rw e at h))

@@ -28,9 +28,7 @@ fn cell_mark(marks: [bool; 8], w: u32, i: usize) -> [bool; 8]
         let east = num::sub(cx as u64, 40);
         let north = num::sub(cy as u64, 40);
         let k = bearing::sector_of(east, north);
-        let mut m = marks;
-        m[k as usize] = true;
-        return m;
+        return around::with_mark(marks, k as usize, true);
     }
     marks
 }
@@ -40,41 +38,20 @@ fn cell_marks(grid: &[u32; 1600]) -> [bool; 8]
     ensures { result ≡ table (λ k. some (cell_in grid.now k) 1600) 8 }
 {
     let mut m = [false; 8];
-    let mut i = 0;
-    while i < 1600 {
-        let next = cell_mark(m, grid[i], i);
+    for (i, w) in grid.iter().enumerate() {
+        // by way of a name, here and below: the prover takes no array that a call lays into a variable of a loop
+        let next = cell_mark(m, *w, i);
         m = next;
-        i += 1;
     }
     m
 }
 
-// Whether a bin of sector k is occupied: the bits of its nine together tell.
+// Whether a bin of sector k is occupied.
 fn bin_heard(bins: &[u32; 72], k: usize) -> bool
     requires { k < 8 }
     ensures { result ≡ some (bin_in bins.now k) 72 }
 {
-    let mut all: u32 = 0;
-    let mut j = 9 * k;
-    let end = j + 9;
-    while j < end {
-        all = all | bins[j];
-        j += 1;
-    }
-    cells::occupied(all)
-}
-
-// The marks with that of sector k, if it is heard.
-fn with_mark(marks: [bool; 8], heard: bool, k: usize) -> [bool; 8]
-    requires { k < 8 }
-    ensures { result ≡ cond heard (set marks k true) marks }
-{
-    if heard {
-        let mut m = marks;
-        m[k] = true;
-        return m;
-    }
-    marks
+    view::heard_among(&bins[9 * k..9 * k + 9])
 }
 
 // The marks with those of the bins.
@@ -82,11 +59,9 @@ fn bin_marks(marks: [bool; 8], bins: &[u32; 72]) -> [bool; 8]
     ensures { (f : ℕ → Bool) → marks ≡ table f 8 → result ≡ table (λ k. f k || some (bin_in bins.now k) 72) 8 }
 {
     let mut m = marks;
-    let mut k = 0;
-    while k < 8 {
-        let next = with_mark(m, bin_heard(bins, k), k);
+    for k in 0..8 {
+        let next = around::with_mark(m, k, bin_heard(bins, k));
         m = next;
-        k += 1;
     }
     m
 }
@@ -95,14 +70,12 @@ fn bin_marks(marks: [bool; 8], bins: &[u32; 72]) -> [bool; 8]
 pub fn outside(grid: &[u32; 1600], far: Far) -> bool
     ensures { result ≡ outside_of grid.now far.cells }
 {
-    let bins = far.cells;
-    sectors(bin_marks(cell_marks(grid), &bins)) <= 4
+    sectors(bin_marks(cell_marks(grid), &far.cells)) <= 4
 }
 
 // The same where no cell of the grid is occupied.
 pub fn outside_far(far: Far) -> bool
     ensures { (grid : List ℕ) → Unheard grid → result ≡ outside_of grid far.cells }
 {
-    let bins = far.cells;
-    sectors(bin_marks([false; 8], &bins)) <= 4
+    sectors(bin_marks([false; 8], &far.cells)) <= 4
 }

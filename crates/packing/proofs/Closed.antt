@@ -1,8 +1,8 @@
 -- Opened and closed again, the words of a field that fit are themselves; of a site that is within degrees, so no NaN.
+use Rattle.std.specs.Prelude.{Some, None}
 use mathlib.Core.Path.{◌≡◌, refl, sym, ap, ◌∙◌, subst}
-use Prim.Native.Nat.{ℕ, zero, suc, ◌%◌, ◌≤◌, ◌<◌}
+use Prim.Native.Nat.{ℕ, suc, ◌≤◌, ◌<◌}
 use native.Mathlib.Omega.{arith}
-use native.Mathlib.Nat.{mod-eq_of_lt}
 use mathlib.Core.Bool.{Bool, true, false, cond, not, ◌&&◌}
 use mathlib.Core.List.{List, [], ◌∷◌}
 use borrow.Author.Tests.{eqb-true, leb-true}
@@ -10,19 +10,15 @@ use lib.Dec.{T, eqb, leb}
 use lib.ListN.{get_or}
 use lib.Ieee.{Float, nan, inf, fin, is_nan, binary64, of_bits, to_bits}
 use lib.Ieee.Bits.{to_bits-of_bits}
-use mir.Syntax.{w32}
-use mir.Val.{of_z, to_z}
-use mir.ValLaws.{of_z-to_z, top-pow}
+use mir.ValLaws.{top-pow}
 use Rattle.table.proofs.Tests.{by_bool, clash, and_1, and_2}
 use Rattle.measures.specs.Degrees.{within}
 use Rattle.sites.specs.Sites.{held}
 use Rattle.sites.specs.declared.Site.{Site}
-use Rattle.sites.specs.declared.Claimed.TheVariants.{At, Nowhere}
 use Rattle.heard.specs.Heard as heard
-use Rattle.verdicts.specs.declared.Judged.TheVariants.{With, Never}
-use Rattle.packing.specs.Words.{most32, most64, bytes_of, key_words, key_of, wide2, zeros, maybe_fits, altitude_words, altitude_of, site_words, site_of, site_fits, id_words, id_of, last_word, last_of, by_words, by_of, verdict_words, run_of, verdict_of, run_fits, verdict_fits}
+use Rattle.packing.specs.Words.{most32, most64, key_words, key_of, wide2, zeros, maybe_words, maybe_of, maybe_fits, altitude_of, site_words, site_of, site_fits, id_words, verdict_words, run_of, verdict_of, run_fits, verdict_fits}
+use Rattle.packing.specs.Laws.{WordLaws, whole_laws, wide_laws, signed_laws, byte_laws, flag_laws, last_laws}
 use Rattle.packing.proofs.Keys.{word_back}
-use Rattle.packing.proofs.Returns.{low_is}
 
 -- A NUMBER OR NONE, by cases
 maybe_cases : (P : ℕ → ℕ → Type 0) (most t m : ℕ) (q : List ℕ) → maybe_fits most (t ∷ m ∷ q) ≡ true → P 0 0 → (m ≤ most → P 1 m) → P t m
@@ -36,19 +32,14 @@ maybe_cases P most t m q h none some =
     let b : (eqb t 1 && leb m most) ≡ true = sym (ap (λ (b : Bool). cond b (eqb m 0) (eqb t 1 && leb m most)) e) ∙ h in
     subst (λ (x : ℕ). P x m) (sym (eqb-true t 1 (and_1 (eqb t 1) (leb m most) b))) (some (leb-true m most (and_2 (eqb t 1) (leb m most) b))))
 
-altitude_closed : (t m : ℕ) (q : List ℕ) → maybe_fits most32 (t ∷ m ∷ q) ≡ true → altitude_words (altitude_of (t ∷ m ∷ q)) ≡ t ∷ m ∷ []
-unfolding altitude_words altitude_of most32
-altitude_closed t m q h =
-    maybe_cases (λ t m. altitude_words (altitude_of (t ∷ m ∷ q)) ≡ t ∷ m ∷ []) most32 t m q h refl
-    (λ s. ap (λ (n : ℕ). 1 ∷ of_z w32 (to_z w32 n) ∷ []) (low_is m s) ∙ ap (λ (n : ℕ). 1 ∷ n ∷ []) (of_z-to_z w32 m (record { fits = omega (arith, s) })))
+-- by the laws of its type
+maybe_closed : {A : Type 0} {most : ℕ} {f : A → ℕ} {g : ℕ → A} {In : A → Type 0} → WordLaws most f g In → (t m : ℕ) (q : List ℕ)
+    → maybe_fits most (t ∷ m ∷ q) ≡ true → maybe_words f (maybe_of g (t ∷ m ∷ q)) ≡ t ∷ m ∷ []
+maybe_closed {most = most} {f = f} {g = g} laws t m q h =
+    maybe_cases (λ t m. maybe_words f (maybe_of g (t ∷ m ∷ q)) ≡ t ∷ m ∷ []) most t m q h refl (λ s. ap (λ (n : ℕ). 1 ∷ n ∷ []) (laws.again m s))
 
-pub id_closed : (t m : ℕ) (q : List ℕ) → maybe_fits most64 (t ∷ m ∷ q) ≡ true → id_words (id_of (t ∷ m ∷ q)) ≡ t ∷ m ∷ []
-unfolding id_words id_of
-id_closed t m q h = maybe_cases (λ t m. id_words (id_of (t ∷ m ∷ q)) ≡ t ∷ m ∷ []) most64 t m q h refl (λ s. refl)
-
-by_closed : (t m : ℕ) (q : List ℕ) → maybe_fits most32 (t ∷ m ∷ q) ≡ true → by_words (by_of (t ∷ m ∷ q)) ≡ t ∷ m ∷ []
-unfolding by_words by_of
-by_closed t m q h = maybe_cases (λ t m. by_words (by_of (t ∷ m ∷ q)) ≡ t ∷ m ∷ []) most32 t m q h refl (λ s. ap (λ (n : ℕ). 1 ∷ n ∷ []) (low_is m s))
+pub id_closed : (t m : ℕ) (q : List ℕ) → maybe_fits most64 (t ∷ m ∷ q) ≡ true → id_words (maybe_of (λ w. w) (t ∷ m ∷ q)) ≡ t ∷ m ∷ []
+id_closed = maybe_closed whole_laws
 
 -- NONE: zeros are all alike
 zero_at : (n : ℕ) (ws : List ℕ) → zeros (suc n) ws ≡ true → get_or ws n 0 ≡ 0
@@ -96,27 +87,13 @@ module _ (t a b u m : ℕ) (q : List ℕ) where
           let f : (eqb t 1 && (degrees && maybe_fits most32 (u ∷ m ∷ q))) ≡ true = sym (ap (λ (x : Bool). cond x (zeros 4 l) (eqb t 1 && (degrees && maybe_fits most32 (u ∷ m ∷ q)))) e) ∙ h in
           let rest = and_2 (eqb t 1) (degrees && maybe_fits most32 (u ∷ m ∷ q)) f in
           let wide = and_1 degrees (maybe_fits most32 (u ∷ m ∷ q)) rest in
-          let in_degrees : held place ≡ true = sym (ap (λ (x : Bool). heard.site_fits (cond x Nowhere (At place))) e) ∙ g in
+          let in_degrees : held place ≡ true = sym (ap (λ (x : Bool). heard.site_fits (cond x None (Some place))) e) ∙ g in
           let lat = bits_closed 90 a (and_1 (leb a most64) (leb b most64) wide) (and_1 (within 90 place.lat) (within 180 place.lon) in_degrees) in
           let lon = bits_closed 180 b (and_2 (leb a most64) (leb b most64) wide) (and_2 (within 90 place.lat) (within 180 place.lon) in_degrees) in
-          ap (λ (x : Bool). site_words (cond x Nowhere (At place))) e
-          ∙ simp (lat, lon, altitude_closed u m q (and_2 degrees (maybe_fits most32 (u ∷ m ∷ q)) rest), eqb-true t 1 (and_1 (eqb t 1) (degrees && maybe_fits most32 (u ∷ m ∷ q)) f))
+          ap (λ (x : Bool). site_words (cond x None (Some place))) e
+          ∙ simp (lat, lon, maybe_closed signed_laws u m q (and_2 degrees (maybe_fits most32 (u ∷ m ∷ q)) rest), eqb-true t 1 (and_1 (eqb t 1) (degrees && maybe_fits most32 (u ∷ m ∷ q)) f))
 
 -- VERDICT
-last_closed : (w : ℕ) → leb w 2 ≡ true → last_word (last_of w) ≡ w
-last_closed zero h = refl
-last_closed (suc zero) h = refl
-last_closed (suc (suc zero)) h = refl
-last_closed (suc (suc (suc w))) h = absurd (omega (arith, leb-true (suc (suc (suc w))) 2 h))
-
-moved_closed : (w : ℕ) → leb w 1 ≡ true → cond {A = ℕ} (not (eqb w 0)) 1 0 ≡ w
-moved_closed zero h = refl
-moved_closed (suc zero) h = refl
-moved_closed (suc (suc w)) h = absurd (omega (arith, leb-true (suc (suc w)) 1 h))
-
-byte_closed : (w : ℕ) → leb w 255 ≡ true → w % 256 ≡ w
-byte_closed w h = mod-eq_of_lt (let l : w ≤ 255 = leb-true w 255 h in omega (arith, l))
-
 module _ (t a b c u d v : ℕ) (q : List ℕ) where
   abbrev run7 : List ℕ
   run7 = t ∷ a ∷ b ∷ c ∷ u ∷ d ∷ v ∷ q
@@ -147,12 +124,12 @@ module _ (t a b c u d v : ℕ) (q : List ℕ) where
           let low = and_1 counts (far && leb v 1) rest in
           let bytes = and_2 (leb a 2) (leb b 255 && leb c 255) low in
           let ends = and_2 counts (far && leb v 1) rest in
-          ap (λ (x : Bool). verdict_words (cond x Never (With (run_of run7)))) e
-          ∙ simp (last_closed a (and_1 (leb a 2) (leb b 255 && leb c 255) low), byte_closed b (and_1 (leb b 255) (leb c 255) bytes), byte_closed c (and_2 (leb b 255) (leb c 255) bytes), by_closed u d (v ∷ q) (and_1 far (leb v 1) ends), moved_closed v (and_2 far (leb v 1) ends), eqb-true t 1 (and_1 (eqb t 1) (counts && (far && leb v 1)) f))
+          ap (λ (x : Bool). verdict_words (cond x None (Some (run_of run7)))) e
+          ∙ simp (last_laws.again a (leb-true a 2 (and_1 (leb a 2) (leb b 255 && leb c 255) low)), byte_laws.again b (leb-true b 255 (and_1 (leb b 255) (leb c 255) bytes)), byte_laws.again c (leb-true c 255 (and_2 (leb b 255) (leb c 255) bytes)), maybe_closed wide_laws u d (v ∷ q) (and_1 far (leb v 1) ends), flag_laws.again v (leb-true v 1 (and_2 far (leb v 1) ends)), eqb-true t 1 (and_1 (eqb t 1) (counts && (far && leb v 1)) f))
 
 -- KEY
 pub key_closed : (a b c d : ℕ) (q : List ℕ) → (wide2 (a ∷ b ∷ c ∷ d ∷ q) && wide2 (c ∷ d ∷ q)) ≡ true → key_words (key_of (a ∷ b ∷ c ∷ d ∷ q)) ≡ a ∷ b ∷ c ∷ d ∷ []
-unfolding key_words key_of bytes_of
+unfolding key_words key_of
 key_closed a b c d q h =
     let x = and_1 (wide2 (a ∷ b ∷ c ∷ d ∷ q)) (wide2 (c ∷ d ∷ q)) h in
     let y = and_2 (wide2 (a ∷ b ∷ c ∷ d ∷ q)) (wide2 (c ∷ d ∷ q)) h in

@@ -1,9 +1,9 @@
 -- Runs of stores: one after another they are one run of both; a run over the whole list leaves what was stored. And a word at a place of what is left.
 use mathlib.Core.Path.{◌≡◌, refl, sym, ap, ◌∙◌}
-use Prim.Native.Nat.{ℕ, suc, ◌+◌, ◌≤◌, ◌<◌}
+use Prim.Native.Nat.{ℕ, suc, ◌+◌}
 use native.Mathlib.Omega.{arith}
 use mathlib.Core.List.{List, [], ◌∷◌, ◌++◌, append-nil}
-use lib.ListN.{length, get_or, set, drop, length-set, length-append}
+use lib.ListN.{length, get_or, set, drop, length-append}
 use lib.Seq.{sets, sets-eq, drop-length, get_or-drop, drop-drop, take_at, drop_at}
 
 pub after : (l xs ys : List ℕ) (i n : ℕ) → length xs ≡ n → sets (sets l i xs) (i + n) ys ≡ sets l i (xs ++ ys)
@@ -35,15 +35,6 @@ over_rest p q xs n h e =
 
 pub over_all : (l xs : List ℕ) → length xs ≡ length l → sets l 0 xs ≡ xs
 over_all l xs h = over_rest [] l xs 0 refl h
-
-pub second_in : (l : List ℕ) (i a : ℕ) → i + 2 ≤ length l → i + 1 < length (set l i a)
-second_in l i a h = omega (arith, length-set l i a)
-
-pub two : (l : List ℕ) (i a b : ℕ) → set (set l i a) (i + 1) b ≡ sets l i (a ∷ b ∷ [])
-two l i a b = after l (a ∷ []) (b ∷ []) i 1 refl
-
-pub four : (l y z : List ℕ) (i a b c d : ℕ) → y ≡ sets l i (a ∷ b ∷ []) → z ≡ sets y (i + 2) (c ∷ d ∷ []) → z ≡ sets l i (a ∷ b ∷ c ∷ d ∷ [])
-four l y z i a b c d e f = runs2 l (a ∷ b ∷ []) (c ∷ d ∷ []) y z i (i + 2) refl e f
 
 -- a word of what is left from the i-th on
 pub here : (l : List ℕ) (i : ℕ) → get_or (drop i l) 0 0 ≡ get_or l i 0

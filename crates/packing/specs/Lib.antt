@@ -1,3 +1,4 @@
 -- The definitions that contracts cite.
 pub mod Words
 pub mod Ranges
+pub mod Laws

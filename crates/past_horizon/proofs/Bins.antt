@@ -1,4 +1,5 @@
 -- What the loop over the bins holds: the excesses so far lie at the array's end, the latest bin's first. Assumes nothing.
+use Rattle.std.specs.Prelude.{Some, None, Option}
 use mathlib.Core.Path.{◌≡◌, refl, sym, ap, ◌∙◌}
 use mathlib.Core.Bool.{Bool, true, false, ◌&&◌, cond}
 use mathlib.Core.List.{List, ◌∷◌}
@@ -12,11 +13,8 @@ use lib.Ieee.{Float, nan}
 use lib.ListN.{length, get_or, take, drop, set, length-set, length-drop, drop_of_length-le}
 use lib.Seq.{take_all, drop-cons, drop-set-lt, get_or-set_same}
 use Rattle.rank.specs.Rank.{sorted}
-use Rattle.floats.specs.declared.horizon.Past.{Past}
-use Rattle.floats.specs.declared.horizon.Past.TheVariants.{By, No}
 use Rattle.floats.specs.Horizon.{past_of}
 use Rattle.cells.specs.Cells.{count_of, low_of, bits_of, occupied_word, ceiling}
-use Rattle.cells.specs.declared.Ceiling.TheVariants.{Metres, NoAltitude}
 use Rattle.cells.specs.Passes.{pass}
 use Rattle.cells.proofs.Passes.{pass_next}
 use Rattle.view.specs.declared.Far.{Far}
@@ -25,15 +23,15 @@ use Rattle.past_horizon.specs.Horizon.{edge_of, under_ceiling, bin_past, with_ex
 
 -- ---- one bin
 module _ (w j : ℕ) (a : Float) where
-  pub unoccupied : occupied_word w ≡ false → No ≡ bin_past w j a
+  pub unoccupied : occupied_word w ≡ false → None ≡ bin_past w j a
   unfolding bin_past
   unoccupied e = rw e
 
-  pub at_height : (b : Float) → occupied_word w ≡ true → ceiling (low_of w) ≡ Metres b → past_of (edge_of j) a b ≡ bin_past w j a
+  pub at_height : (b : Float) → occupied_word w ≡ true → ceiling (low_of w) ≡ Some b → past_of (edge_of j) a b ≡ bin_past w j a
   unfolding bin_past under_ceiling
   at_height b e h = rw (e, h)
 
-  pub at_no_height : occupied_word w ≡ true → ceiling (low_of w) ≡ NoAltitude → No ≡ bin_past w j a
+  pub at_no_height : occupied_word w ≡ true → ceiling (low_of w) ≡ None → None ≡ bin_past w j a
   unfolding bin_past under_ceiling
   at_no_height e h = rw (e, h)
 
@@ -63,7 +61,7 @@ in_front xs at x h =
 
 module _ (bins : List ℕ) (a : Float) (xs : List Float) (at positions aircraft i : ℕ) (s : Seen bins a xs at positions aircraft i) where
   pub one_past :
-      (km : Float) (c b : ℕ) → 1 ≤ at → at ≤ length xs → bin_past (get_or bins i 0) i a ≡ By km
+      (km : Float) (c b : ℕ) → 1 ≤ at → at ≤ length xs → bin_past (get_or bins i 0) i a ≡ Some km
       → c ≡ count_of (get_or bins i 0) → b ≡ bits_of (get_or bins i 0) → Seen bins a (set xs (at - 1) km) (at - 1) (positions + c) (bit_or aircraft b) (i + 1)
   unfolding excesses past_positions past_aircraft
   one_past km c b low high e ec eb = record {
@@ -74,7 +72,7 @@ module _ (bins : List ℕ) (a : Float) (xs : List Float) (at positions aircraft 
     marks = rw (pass_next, e) (cc (s.marks, eb));
   }
 
-  pub not_past : bin_past (get_or bins i 0) i a ≡ No → Seen bins a xs at positions aircraft (i + 1)
+  pub not_past : bin_past (get_or bins i 0) i a ≡ None → Seen bins a xs at positions aircraft (i + 1)
   unfolding excesses past_positions past_aircraft
   not_past e = record { held = rw (pass_next, e) s.held; sum = rw (pass_next, e) s.sum; marks = rw (pass_next, e) s.marks }
 
@@ -98,9 +96,9 @@ all bins a xs at positions aircraft i z s e =
     }
 
 -- ---- a bin that is past is occupied: no more are past than are occupied
-one_at_most : (occupied : Bool) (p : Past) (l : List Float) (k : ℕ) → length l ≤ k → length (with_excess (cond occupied p No) l) ≤ cond occupied (k + 1) k
-one_at_most true (By km) l k h = omega arith
-one_at_most true No l k h = omega arith
+one_at_most : (occupied : Bool) (p : Option Float) (l : List Float) (k : ℕ) → length l ≤ k → length (with_excess (cond occupied p None) l) ≤ cond occupied (k + 1) k
+one_at_most true (Some km) l k h = omega arith
+one_at_most true None l k h = omega arith
 one_at_most false p l k h = h
 
 past_occupied : (bins : List ℕ) (a : Float) (n : ℕ) → length (excesses bins a n) ≤ occupied_among bins n
@@ -110,17 +108,17 @@ past_occupied bins a (suc n) =
     let w = get_or bins n 0 in
     one_at_most (occupied_word w) (under_ceiling (ceiling (low_of w)) n a) (excesses bins a n) (occupied_among bins n) (past_occupied bins a n)
 
-pub too_few_occupied : (far : Far) (a : Float) → occupied_among far.cells 72 < 3 → No ≡ horizon_past far a
+pub too_few_occupied : (far : Far) (a : Float) → occupied_among far.cells 72 < 3 → None ≡ horizon_past far a
 unfolding horizon_past enough_past
 too_few_occupied far a h = rw (lt-leb 3 (length (excesses far.cells a 72)) (omega (arith, past_occupied far.cells a 72)))
 
 -- ---- the four answers
 -- of three tests the second fails, or the third
-second_fails : (x : Bool) (p : Past) → No ≡ cond (x && false) p No
+second_fails : (x : Bool) (p : Option Float) → None ≡ cond (x && false) p None
 second_fails true p = refl
 second_fails false p = refl
 
-third_fails : (x y : Bool) (p : Past) → No ≡ cond (x && (y && false)) p No
+third_fails : (x y : Bool) (p : Option Float) → None ≡ cond (x && (y && false)) p None
 third_fails true y p = second_fails y p
 third_fails false y p = refl
 
@@ -134,22 +132,22 @@ module _ (far : Far) (a : Float) (xs : List Float) (n positions aircraft : ℕ) 
   positions_are : leb far.positions (past_positions far.cells a 72 * 20) ≡ leb far.positions (positions * 20)
   positions_are = ap (λ (m : ℕ). leb far.positions (m * 20)) (sym s.sum)
 
-  pub too_few : n < 3 → No ≡ horizon_past far a
+  pub too_few : n < 3 → None ≡ horizon_past far a
   unfolding horizon_past enough_past
   too_few h = rw (bins_are ∙ lt-leb 3 n h)
 
-  pub too_few_aircraft : ones aircraft < 3 → No ≡ horizon_past far a
+  pub too_few_aircraft : ones aircraft < 3 → None ≡ horizon_past far a
   unfolding horizon_past enough_past
   too_few_aircraft h = rw (aircraft_are ∙ lt-leb 3 (ones aircraft) h) (second_fails (leb 3 (length (excesses far.cells a 72))) _)
 
-  pub too_few_positions : positions * 20 < far.positions → No ≡ horizon_past far a
+  pub too_few_positions : positions * 20 < far.positions → None ≡ horizon_past far a
   unfolding horizon_past enough_past
   too_few_positions h =
       rw (positions_are ∙ lt-leb far.positions (positions * 20) h)
       (third_fails (leb 3 (length (excesses far.cells a 72))) (leb 3 (ones (past_aircraft far.cells a 72))) _)
 
-  pub enough : (x : Float) → 3 ≤ n → 3 ≤ ones aircraft → far.positions ≤ positions * 20 → x ≡ get_or (sorted xs) (n / 2) nan → By x ≡ horizon_past far a
+  pub enough : (x : Float) → 3 ≤ n → 3 ≤ ones aircraft → far.positions ≤ positions * 20 → x ≡ get_or (sorted xs) (n / 2) nan → Some x ≡ horizon_past far a
   unfolding horizon_past enough_past middle
   enough x h k g e =
       rw (bins_are ∙ le-leb 3 n h, aircraft_are ∙ le-leb 3 (ones aircraft) k, positions_are ∙ le-leb far.positions (positions * 20) g)
-      (ap By (e ∙ ap (λ (m : ℕ). get_or (sorted xs) (m / 2) nan) s.many ∙ ap (λ (l : List Float). get_or (sorted l) (length l / 2) nan) s.is))
+      (ap Some (e ∙ ap (λ (m : ℕ). get_or (sorted xs) (m / 2) nan) s.many ∙ ap (λ (l : List Float). get_or (sorted l) (length l / 2) nan) s.is))

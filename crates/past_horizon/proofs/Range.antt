@@ -1,5 +1,6 @@
 -- Every excess is a distance from 0 to 800 that the format holds, and so is the one that `past_horizon` answers; sorted, they ascend.
 -- Assumes nothing.
+use Rattle.std.specs.Prelude.{Some, None, Option}
 use mathlib.Core.Path.{◌≡◌, refl, subst}
 use mathlib.Core.Bool.{Bool, true, false, ◌&&◌, cond}
 use mathlib.Core.List.{List, [], ◌∷◌}
@@ -15,15 +16,11 @@ use Rattle.floats.specs.Horizon.{allowance, past_of}
 use Rattle.rank.specs.Rank.{insert, sorted, AllGood, Ascending}
 use Rattle.root.specs.Root.{plain}
 use Rattle.measures.specs.Steps.{distance}
-use Rattle.floats.specs.declared.horizon.Past.{Past}
-use Rattle.floats.specs.declared.horizon.Past.TheVariants.{By, No}
 use Rattle.floats.proofs.Excess.{by_is, in_range}
 use Rattle.rank.proofs.Order.{sorted_ascending}
 use Rattle.rank.proofs.Counted.{sorted_length}
 use Rattle.cells.specs.Cells.{low_of, occupied_word, ceiling}
 use Rattle.cells.specs.Passes.{pass}
-use Rattle.cells.specs.declared.Ceiling.{Ceiling}
-use Rattle.cells.specs.declared.Ceiling.TheVariants.{Metres, NoAltitude}
 use Rattle.sites.specs.Sites.{antenna}
 use Rattle.sites.specs.declared.Site.{Site}
 use Rattle.view.specs.declared.Far.{Far}
@@ -54,21 +51,21 @@ pub record Held (x : Float) : Type 0 where
   pub near : T (distance x)
   pub fit : T (fits binary64 x)
 
-past_held : (edge a b km : Float) → T (distance edge) → past_of edge a b ≡ By km → Held km
+past_held : (edge a b km : Float) → T (distance edge) → past_of edge a b ≡ Some km → Held km
 unfolding past_of
 past_held edge a b km p h =
     let k = by_is (lt (allowance a b) edge) (sub binary64 edge (allowance a b)) km h in
     record { near = in_range edge a b km p h; fit = subst (λ (x : Float). T (fits binary64 x)) k.1 (sub-fits binary64 edge (allowance a b)) }
 
-never : (km : Float) → No ≡ By km → ⊥
+never : (km : Float) → None ≡ Some km → ⊥
 never km h = let z : ◌≡◌ {A = ℕ} 0 1 = cc in omega arith
 
-under_held : (c : Ceiling) (j : ℕ) (a km : Float) → under_ceiling c j a ≡ By km → Held km
+under_held : (c : Option Float) (j : ℕ) (a km : Float) → under_ceiling c j a ≡ Some km → Held km
 unfolding under_ceiling
-under_held (Metres b) j a km h = past_held (edge_of j) a b km (edge_distance j) h
-under_held NoAltitude j a km h = absurd (never km h)
+under_held (Some b) j a km h = past_held (edge_of j) a b km (edge_distance j) h
+under_held None j a km h = absurd (never km h)
 
-bin_held : (b : Bool) (c : Ceiling) (j : ℕ) (a km : Float) → cond b (under_ceiling c j a) No ≡ By km → Held km
+bin_held : (b : Bool) (c : Option Float) (j : ℕ) (a km : Float) → cond b (under_ceiling c j a) None ≡ Some km → Held km
 bin_held true c j a km h = under_held c j a km h
 bin_held false c j a km h = absurd (never km h)
 
@@ -77,9 +74,9 @@ abbrev All : List Float → Type 0
 All [] = Unit
 All (x ∷ l) = Held x × All l
 
-put_held : (p : Past) (l : List Float) → ((km : Float) → p ≡ By km → Held km) → All l → All (with_excess p l)
-put_held (By km) l h a = (h km refl, a)
-put_held No l h a = a
+put_held : (p : Option Float) (l : List Float) → ((km : Float) → p ≡ Some km → Held km) → All l → All (with_excess p l)
+put_held (Some km) l h a = (h km refl, a)
+put_held None l h a = a
 
 excesses_held : (bins : List ℕ) (a : Float) (n : ℕ) → All (excesses bins a n)
 unfolding excesses bin_past pass
@@ -108,7 +105,7 @@ at_held (x ∷ l) zero h a = a.0
 at_held (x ∷ l) (suc j) h a = at_held l j (le_of_suc-le-suc h) a.1
 
 -- ---- and so is the one in the middle
-middle_is : (a b : Bool) (x km : Float) → cond (a && b) (By x) No ≡ By km → (a ≡ true) × (x ≡ km)
+middle_is : (a b : Bool) (x km : Float) → cond (a && b) (Some x) None ≡ Some km → (a ≡ true) × (x ≡ km)
 middle_is true true x km h = (refl, cc)
 middle_is true false x km h = (refl, cc)
 middle_is false b x km h = (cc, cc)
@@ -116,7 +113,7 @@ middle_is false b x km h = (cc, cc)
 below : (n m : ℕ) → n ≡ m → 3 ≤ m → m / 2 < n
 below n m e h = omega arith
 
-pub past_distance : (site : Site) (far : Far) (km : Float) → past_horizon site far ≡ By km → T (distance km)
+pub past_distance : (site : Site) (far : Far) (km : Float) → past_horizon site far ≡ Some km → T (distance km)
 unfolding past_horizon horizon_past enough_past middle
 past_distance site far km h =
     let l = excesses far.cells (antenna site) 72 in

@@ -6,9 +6,8 @@ ghost use Rattle.root.specs.Root.{root};
 ghost use Rattle.floats.specs.Horizon.{at_least_zero};
 ghost use Rattle.past_horizon.specs.Horizon.{edge_of, bin_past, past_horizon};
 
-use cells::{Ceiling, Cell};
+use cells::Cell;
 use floats::horizon;
-use floats::horizon::Past;
 use sites::Site;
 use view::Far;
 
@@ -21,64 +20,53 @@ fn edge_km(bin: usize) -> f64
 }
 
 // By how much one bin is past the horizon: it has a count and an altitude, and its edge is past what is allowed.
-fn bin_past(w: u32, bin: usize, antenna_root: f64) -> Past
+fn bin_past(w: u32, bin: usize, antenna_root: f64) -> Option<f64>
     ensures { (a : Float) → antenna_root ≡ root (at_least_zero a) → result ≡ bin_past w bin a }
 {
-    if cells::occupied(w) {
-        let ceiling = Cell::unpack(w).ceiling_m();
-        return match ceiling {
-            Ceiling::Metres(m) => horizon::past_by(edge_km(bin), antenna_root, m),
-            Ceiling::NoAltitude => Past::No,
-        };
+    if !cells::occupied(w) {
+        return None;
     }
-    Past::No
+    let ceiling = Cell::unpack(w).ceiling_m()?;
+    horizon::past_by(edge_km(bin), antenna_root, ceiling)
 }
 
 // The middle excess of the bins past the horizon, if enough are: three bins, three aircraft, one position in twenty. The excesses
 // fill an array from its end.
-fn middle_excess(site: Site, far: Far) -> Past
+fn middle_excess(site: Site, far: Far) -> Option<f64>
     ensures { result ≡ past_horizon site far }
 {
     let antenna_root = horizon::root_of(sites::antenna_m(site));
-    let bins = far.cells;
     let mut xs = [0.0; 72];
-    let mut at: usize = 72;
-    let mut positions: u32 = 0;
-    let mut aircraft: u32 = 0;
-    let mut i: usize = 0;
-    while i < 72 {
-        let w = bins[i];
-        let p = bin_past(w, i, antenna_root);
-        i += 1;
-        match p {
-            Past::By(km) => {
-                at -= 1;
-                xs[at] = km;
-                positions += cells::count_of(w);
-                aircraft = aircraft | cells::bits_of(w);
-            }
-            Past::No => {}
+    let mut at = 72;
+    let mut positions = 0;
+    let mut aircraft = 0;
+    for (i, w) in far.cells.iter().enumerate() {
+        if let Some(km) = bin_past(*w, i, antenna_root) {
+            at -= 1;
+            xs[at] = km;
+            positions += cells::count_of(*w);
+            aircraft |= cells::bits_of(*w);
         }
     }
     let n = 72 - at;
     if n < 3 {
-        return Past::No;
+        return None;
     }
-    if u32::count_ones(aircraft) < 3 {
-        return Past::No;
+    if aircraft.count_ones() < 3 {
+        return None;
     }
     if positions * 20 < far.positions {
-        return Past::No;
+        return None;
     }
-    Past::By(rank::nth(&xs[at..], n / 2))
+    Some(rank::nth(&xs[at..], n / 2))
 }
 
 // The same; where fewer than three bins are occupied no root need be taken.
-pub fn past_horizon(site: Site, far: Far) -> Past
+pub fn past_horizon(site: Site, far: Far) -> Option<f64>
     ensures { result ≡ past_horizon site far }
 {
     if view::occupied_among(&far.cells) < 3 {
-        return Past::No;
+        return None;
     }
     middle_excess(site, far)
 }

@@ -8,7 +8,7 @@ use borrow.Author.Tests.{lt-ltb, le-ltb}
 use lib.Dec.{ltb}
 use lib.IntN.{ℤ, pos, negsuc, ◌-ℤ◌}
 use Rattle.angles.specs.Bearing.{sector}
-use Rattle.cells.proofs.Passes.{lt_or_ge}
+use Rattle.std.proofs.lemmas.Bool.{cases_lt}
 use Rattle.plane.specs.Plane.{sector_from}
 
 -- a difference by its sign
@@ -103,7 +103,7 @@ module _ (cx cy x y : ℕ) where
       ⊎_elim
       (λ (lt : cy < y). rw (plus cx x (omega arith), minus cy y lt) (east_south (cx - x) (y - suc cy) (omega arith)))
       (λ (ge : y ≤ cy). rw (plus cx x (omega arith), plus cy y ge) (due_east (cx - x) (cy - y) (omega arith) (omega arith)))
-      (lt_or_ge cy y)
+      (cases_lt cy y)
 
   pub in_3 : x < cx → cx - x ≤ y - cy → sector_from cx cy x y ≡ 3
   in_3 h l = rw (plus cx x (omega arith), minus cy y (omega arith)) (south_east (cx - x) (y - suc cy) (omega arith) (omega arith))
@@ -113,7 +113,7 @@ module _ (cx cy x y : ℕ) where
       ⊎_elim
       (λ (lt : cx < x). rw (minus cx x lt, minus cy y (omega arith)) (south_west (x - suc cx) (y - suc cy) (omega arith)))
       (λ (ge : x ≤ cx). rw (plus cx x ge, minus cy y (omega arith)) (due_south (cx - x) (y - suc cy) (omega arith)))
-      (lt_or_ge cx x)
+      (cases_lt cx x)
 
   pub in_5 : cy < y → y - cy ≤ x - cx → sector_from cx cy x y ≡ 5
   in_5 h l = rw (minus cx x (omega arith), minus cy y h) (west_south (x - suc cx) (y - suc cy) (omega arith))

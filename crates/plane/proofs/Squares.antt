@@ -1,11 +1,11 @@
 -- Squares: their order, and what fits. Assumes nothing.
-use mathlib.Core.Path.{◌≡◌, refl, ap}
-use Prim.Native.Nat.{ℕ, zero, suc, ◌+◌, ◌-◌, ◌*◌, ◌^◌, ◌≤◌, ◌<◌, max}
+use mathlib.Core.Path.{◌≡◌, refl}
+use Prim.Native.Nat.{ℕ, zero, suc, ◌+◌, ◌*◌, ◌^◌, ◌≤◌, ◌<◌, max}
 use native.Mathlib.Nat.{mul-le-mul}
 use native.Mathlib.Omega.{arith}
 use lib.Dec.{ltb}
 use Rattle.cells.proofs.Passes.{first_le}
-use Rattle.plane.specs.Plane.{apart, square, steps, said}
+use Rattle.plane.specs.Plane.{square, steps, said}
 
 pub square_is : (n : ℕ) → square n ≡ n * n
 unfolding square
@@ -35,14 +35,6 @@ pub two_apart : (d m : ℕ) → 2 ≤ d + m → 144 < 100 * (square d + square m
 two_apart zero m h = omega (arith, square_le {m = 2} {n = m} (omega arith), square_two)
 two_apart (suc d) zero h = omega (arith, square_le {m = 2} {n = suc d} (omega arith), square_two)
 two_apart (suc d) (suc m) h = omega (arith, square_le {m = 1} {n = suc d} (omega arith), square_le {m = 1} {n = suc m} (omega arith), square_one)
-
-pub apart_below : (a b : ℕ) → a < b → (b - a) * (b - a) ≡ square (apart a b)
-unfolding square
-apart_below a b h = let e : b - a ≡ apart a b = omega arith in ap (λ (n : ℕ). n * n) e
-
-pub apart_above : (a b : ℕ) → b ≤ a → (a - b) * (a - b) ≡ square (apart a b)
-unfolding square
-apart_above a b h = let e : a - b ≡ apart a b = omega arith in ap (λ (n : ℕ). n * n) e
 
 pub odd_small : (k den : ℕ) → k < 160 → den ≤ 1600 → (2 * k + 1) * den ≤ 510400
 odd_small k den h l = mul-le-mul {n₁ = 2 * k + 1} {m₁ = den} {n₂ = 319} {m₂ = 1600} (omega arith) l

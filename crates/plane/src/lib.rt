@@ -1,7 +1,7 @@
 // The grid's plane, in half cells from its south-west corner: where a cell's centre lies, how far two places are apart, and the distance said.
 #![tactic(auto)]
 
-ghost use Rattle.std.specs.Prelude.{◌≡◌, cond, ◌+◌, ◌-◌, ◌≤◌, ◌<◌, ◌^◌, min};
+ghost use Rattle.std.specs.Prelude.{◌≡◌, ◌+◌, ◌*◌, ◌≤◌, ◌<◌, ◌^◌, max};
 ghost use Rattle.plane.specs.Plane.{east_of, north_of, apart, square, steps, said};
 
 pub fn east_of(i: usize) -> u32
@@ -19,15 +19,13 @@ pub fn north_of(i: usize) -> u32
 }
 
 // The square of how far two numbers are apart.
+#[tactic(auto, using(crate::proofs::Squares::small_square), unfolding(crate::specs::Plane::square))]
 pub fn gap(a: u64, b: u64) -> u64
     requires { (a ≤ 2 ^ 20) × (b ≤ 2 ^ 20) }
     ensures { (result ≡ square (apart a b)) × (result ≤ 2 ^ 40) }
 {
-    if a < b {
-        (b - a) * (b - a)
-    } else {
-        (a - b) * (a - b)
-    }
+    let d = a.abs_diff(b);
+    d * d
 }
 
 // The square of the distance of (cx, cy) from (x, y).
@@ -38,54 +36,33 @@ pub fn distance(cx: u32, cy: u32, x: u32, y: u32) -> u64
     gap(cx as u64, x as u64) + gap(cy as u64, y as u64)
 }
 
-// How far two numbers are apart.
-pub fn between(a: u32, b: u32) -> u32
-    ensures { result ≡ apart a b }
-{
-    if a < b { b - a } else { a - b }
-}
-
-// a − b, or 0.
-pub fn less(a: u32, b: u32) -> u32
-    ensures { (result ≡ a - b) × (result ≤ a) }
-{
-    if a < b { 0 } else { a - b }
-}
-
-pub fn lesser(a: u32, b: u32) -> u32
-    ensures { (result ≡ min a b) × (result ≤ b) }
-{
-    if b < a { b } else { a }
-}
-
-// v if yes, else 0.
-pub fn part(yes: bool, v: u32) -> u32
-    ensures { (result ≡ cond yes v 0) × (result ≤ v) }
-{
-    if yes { v } else { 0 }
-}
-
 // √num / den half cells in steps of 5 km, halves up.
 pub fn steps_of(num: u64, den: u64) -> u32
     requires { den ≤ 1600 }
     ensures { (result ≡ steps num den) × (result ≤ 160) }
 {
-    let mut k: u32 = 0;
-    while k < 160 {
+    for k in 0..160 {
         let odd = (2 * k + 1) as u64 * den;
         if num < odd * odd {
             return k;
         }
-        k += 1;
     }
-    k
+    160
+}
+
+// A number of steps, km: at least one step.
+pub fn steps_km(k: u32) -> u32
+    requires { k ≤ 160 }
+    ensures { result ≡ 5 * max 1 k }
+{
+    k.max(1) * 5
 }
 
 // The distance said, km: in steps of 5, at least one step.
+#[tactic(auto, unfolding(crate::specs::Plane::said))]
 pub fn rounded(num: u64, den: u64) -> u32
     requires { den ≤ 1600 }
     ensures { result ≡ said num den }
 {
-    let k = steps_of(num, den);
-    if k < 1 { 5 } else { k * 5 }
+    steps_km(steps_of(num, den))
 }

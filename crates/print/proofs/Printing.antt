@@ -1,18 +1,19 @@
 -- Printing: digits are written from the last to the first, and bytes put one by one into a buffer.
-use mathlib.Core.Path.{◌≡◌, refl, sym, ap, ◌∙◌, subst}
-use mathlib.Core.Bool.{Bool, true, false, not, ◌&&◌, cond}
-use mathlib.Core.List.{List, [], ◌∷◌, ◌++◌}
+use mathlib.Core.Path.{◌≡◌, refl, sym, ap, ◌∙◌}
+use mathlib.Core.Bool.{Bool, true, false, ◌&&◌, cond}
+use mathlib.Core.List.{List, [], ◌∷◌}
 use Prim.Native.Nat.{ℕ, zero, suc, ◌+◌, ◌-◌, ◌/◌, ◌%◌, ◌^◌, ◌≤◌, ◌<◌}
 use native.Mathlib.Nat.{div-div-eq-div-mul, pow-suc}
 use native.Mathlib.Omega.{arith}
 use borrow.Author.Tests.{eq-eqb, ne_eqb, lt-ltb, le-leb, lt-leb}
-use lib.Dec.{T, eqb}
-use lib.ListN.{length, get_or, take, drop, set, length-drop}
-use lib.Seq.{drop-cons, get_or-set_same, drop-set-lt, lt-length-set, take-length, take_all, paste}
-use lib.Ieee.{Float, nan, inf, fin, binary64, is_nan, to_bits, ne}
-use lib.Ieee.Compare.{differs_from_itself, nan_differs}
+use lib.Dec.{eqb}
+use Rattle.std.proofs.lemmas.List.{drop_more}
+use borrow.Rule.Slice.PartMut.{put_mid}
+use Rattle.std.proofs.lemmas.List.{append_assoc, drop-drop}
+use lib.ListN.{drop_of_length-le, length, get_or, take, drop, set, length-drop}
+use lib.Seq.{drop-cons, get_or-set_same, drop-set-lt, lt-length-set, take_all}
+use lib.Ieee.{Float, nan, inf, fin, binary64, is_nan, to_bits}
 use Rattle.print.specs.Print.{glyph_of, digits, without_zeros, decimal_text, bits_text, put_in, put_end}
-use Rattle.fields.proofs.Lines.{walk, walked}
 
 -- ---- a digit more, in front
 digit_front : (base n k j g : ℕ) (out : List ℕ) → j < length out → drop (suc j) out ≡ digits base k n → g ≡ glyph_of (n / base ^ k % base)
@@ -55,11 +56,11 @@ zeros_none (c ∷ s) e = absurd (omega arith)
 
 pub zeros_on : (s : List ℕ) (i : ℕ) → i + 1 < length s → get_or s i 0 ≡ 48 → without_zeros (drop i s) ≡ without_zeros (drop (i + 1) s)
 unfolding without_zeros
-zeros_on s i h e = rw (walk s i (omega arith)) (rw (eq-eqb _ 48 e, lt-ltb 0 (length (drop (i + 1) s)) (omega (arith, length-drop (i + 1) s))))
+zeros_on s i h e = rw (drop_more s i 0 (omega arith)) (rw (eq-eqb _ 48 e, lt-ltb 0 (length (drop (i + 1) s)) (omega (arith, length-drop (i + 1) s))))
 
 pub zeros_stop : (s : List ℕ) (i : ℕ) → i < length s → (get_or s i 0 ≡ 48 → ⊥) → drop i s ≡ without_zeros (drop i s)
 unfolding without_zeros
-zeros_stop s i h n = rw (walk s i h) (rw (ne_eqb _ 48 n))
+zeros_stop s i h n = rw (drop_more s i 0 h) (rw (ne_eqb _ 48 n))
 
 one_digit : (c : ℕ) → c ∷ [] ≡ without_zeros (c ∷ [])
 unfolding without_zeros
@@ -69,16 +70,17 @@ one_digit c = by (eqb c 48) where
   by false = refl
 
 pub zeros_last : (s : List ℕ) (i : ℕ) → i < length s → length s ≤ i + 1 → drop i s ≡ without_zeros (drop i s)
-zeros_last s i h l = rw (walk s i h) (rw (walked s (i + 1) l) (one_digit (get_or s i 0)))
+zeros_last s i h l = rw (drop_more s i 0 h) (rw (drop_of_length-le s {i = i + 1} l) (one_digit (get_or s i 0)))
 
 -- ---- a buffer
-pub put_fits : (out : List ℕ) (at : ℕ) (s : List ℕ) → at + length s ≤ length out
-    → (at + length s ≡ put_end out at s) × (paste out at s (length s) ≡ put_in out at s)
+pub put_fits : (out : List ℕ) (at : ℕ) (s t : List ℕ) → at + length s ≤ length out → t ≡ s
+    → (at + length s ≡ put_end out at s) × (put_mid at (at + length s - at) out t ≡ put_in out at s)
 unfolding put_in put_end
-put_fits out at s h = (
-  rw (le-leb (at + length s) (length out) h),
-  rw (le-leb (at + length s) (length out) h) (ap (λ (t : List ℕ). take at out ++ t ++ drop (at + length s) out) (take-length s)),
-)
+put_fits out at s t h e =
+    let n : at + length s - at ≡ length s = omega arith in (
+      rw (le-leb (at + length s) (length out) h),
+      rw (le-leb (at + length s) (length out) h, e, n, drop-drop (length s) at out) (sym (append_assoc (take at out) s (drop (at + length s) out))),
+    )
 
 pub put_not : (out : List ℕ) (at : ℕ) (s : List ℕ) → length out < at + length s → (at ≡ put_end out at s) × (out ≡ put_in out at s)
 unfolding put_in put_end
@@ -97,12 +99,8 @@ decimal_part n z d e h =
     take_all (20 - z) (drop z d) (omega (arith, length-drop z d, ap length e, digits_length 10 20 n)) ∙ h ∙ ap without_zeros e
 
 -- ---- the bits of a float
-pub no_nan : (x : Float) → ne x x ≡ false → T (not (is_nan x))
-unfolding is_nan
-no_nan nan h = subst T (sym nan_differs ∙ h) tt
-no_nan (inf s) h = tt
-no_nan (fin s m e) h = tt
-
-pub nan_bits : (x : Float) → ne x x ≡ true → 0x7ff8_0000_0000_0000 ≡ to_bits binary64 x
-unfolding to_bits
-nan_bits x h = ap (to_bits binary64) (sym (differs_from_itself x (subst T (sym h) tt)))
+pub nan_bits : (x : Float) → true ≡ is_nan x → 0x7ff8_0000_0000_0000 ≡ to_bits binary64 x
+unfolding is_nan to_bits
+nan_bits nan h = refl
+nan_bits (inf s) h = absurd (cc)
+nan_bits (fin s m e) h = absurd (cc)

@@ -6,24 +6,19 @@ ghost use Rattle.std.specs.Float.{binary64};
 ghost use Rattle.std.specs.Float.Ieee.{to_bits};
 ghost use Rattle.print.specs.Print.{glyph_of, digits, without_zeros, decimal_text, bits_text, put_in, put_end};
 
-// Puts bytes into a buffer at a place, where they fit whole, and answers the place after them.
+// Puts bytes into a buffer at a place, where they fit whole, and answers the place after them. There is no heap, so the caller lends the buffer.
 pub fn put(out: &mut [u8], at: usize, s: &[u8]) -> usize
     ensures { (result ≡ put_end out.old at s.now) × (out.new ≡ put_in out.old at s.now) }
 {
-    if at > out.len() {
+    if at > out.len() || s.len() > out.len() - at {
         return at;
     }
-    if s.len() > out.len() - at {
-        return at;
-    }
-    let mut i = 0;
-    while i < s.len() {
-        out[at + i] = s[i];
-        i += 1;
-    }
-    at + i
+    let end = at + s.len();
+    out[at..end].copy_from_slice(s);
+    end
 }
 
+#[tactic(auto, unfolding(crate::specs::Print::glyph_of))]
 fn glyph(d: u64) -> u8
     requires { d < 16 }
     ensures { result ≡ glyph_of d }
@@ -38,9 +33,7 @@ fn spelled(n: u64, base: u64) -> [u8; 20]
 {
     let mut out = [48u8; 20];
     let mut rest = n;
-    let mut i = 20;
-    while i > 0 {
-        i -= 1;
+    for i in (0..20).rev() {
         out[i] = glyph(rest % base);
         rest /= base;
     }
@@ -51,18 +44,16 @@ fn spelled(n: u64, base: u64) -> [u8; 20]
 fn zeros(s: &[u8]) -> usize
     ensures { (result ≤ length s.now) × (drop result s.now ≡ without_zeros s.now) }
 {
-    if s.len() == 0 {
+    if s.is_empty() {
         return 0;
     }
     let last = s.len() - 1;
-    let mut i = 0;
-    while i < last {
+    for i in 0..last {
         if s[i] != b'0' {
             return i;
         }
-        i += 1;
     }
-    i
+    last
 }
 
 // Puts a number in decimal.
@@ -86,9 +77,9 @@ pub fn put_bits(out: &mut [u8], at: usize, n: u64) -> usize
 pub fn bits_of(x: f64) -> u64
     ensures { result ≡ to_bits binary64 x }
 {
-    if x != x {
+    if x.is_nan() {
         9221120237041090560
     } else {
-        f64::to_bits(x)
+        x.to_bits()
     }
 }

@@ -1,3 +1,2 @@
--- The size of a number between two bounds, and what a distance said leaves room for.
-pub mod Columns
+-- What a distance said leaves room for.
 pub mod Small

@@ -1,10 +1,6 @@
--- A judging's number is small, since every distance that is said is at most 800. Assumes nothing.
-use mathlib.Core.Path.{◌≡◌, refl}
-use mathlib.Core.List.{List}
-use Prim.Native.Nat.{ℕ, ◌+◌, ◌*◌, ◌≤◌}
-use native.Mathlib.Omega.{arith}
-use Rattle.view.specs.declared.EpochId.{EpochId}
-use Rattle.sites.specs.declared.Claimed.{Claimed}
+-- A judging's number is small, since every distance that is said is at most 800.
+use Rattle.std.proofs.Common.{◌≡◌, ℕ, ◌+◌, ◌*◌, ◌≤◌, List, Option, refl, arith}
+use Rattle.sites.specs.declared.Site.{Site}
 use Rattle.near_field.specs.declared.Judgment.{Judgment}
 use Rattle.near_field.specs.declared.Judgment.TheVariants.{Unjudged, Fits, Wrong}
 use Rattle.near_field.specs.declared.Evidence.{Evidence}
@@ -26,6 +22,6 @@ number_small Unjudged h = omega arith
 number_small Fits h = omega arith
 number_small (Wrong off by) h = wrong_small off by (h off by refl)
 
-pub judged_small : (site : Claimed) (even odd : EpochId) (cells : List ℕ) (now aircraft : ℕ) (j : Judgment) → j ≡ judge_of site even odd cells now aircraft → judgment_number j ≤ 3203
+pub judged_small : (site : Option Site) (even odd : Option ℕ) (cells : List ℕ) (now aircraft : ℕ) (j : Judgment) → j ≡ judge_of site even odd cells now aircraft → judgment_number j ≤ 3203
 judged_small site even odd cells now aircraft j e =
     rw e (number_small (judge_of site even odd cells now aircraft) (λ off by h. judge_distance site even odd cells now aircraft off by h))

@@ -2,37 +2,31 @@
 #![tactic(auto)]
 
 ghost use Rattle.std.specs.Prelude.{◌≡◌};
-ghost use Rattle.sites.specs.declared.Altitude.TheVariants as altitudes;
 ghost use Rattle.probes.specs.Probes.{same_answer};
 
-use measures::degrees;
-use sites::{Altitude, Site};
+use sites::Site;
 
 pub mod column;
 pub mod row;
 
-// A site of no altitude.
-fn site_at(lat: f64, lon: f64) -> Site
-    ensures { (result.lat ≡ lat) × (result.lon ≡ lon) × (result.alt_m ≡ altitudes.Unknown) }
-{
-    Site {
-        lat: lat,
-        lon: lon,
-        alt_m: Altitude::Unknown,
-    }
-}
-
-// 1 where the two are one place, 0 where not, 4 for a "no" to question 4.
+// 1 where the two are one place, 0 where not, 4 for a "no" to question 4: numbers, since C reads them.
+#[tactic(auto, unfolding(crate::specs::Probes::same_answer, sites::specs::Sites::same_place))]
 pub fn probe_same_place(lat1: f64, lon1: f64, lat2: f64, lon2: f64) -> u8
     ensures { result ≡ same_answer lat1 lon1 lat2 lon2 }
 {
-    if degrees::in_degrees(lat1, lon1) {
-        if degrees::in_degrees(lat2, lon2) {
-            if sites::same_place(site_at(lat1, lon1), site_at(lat2, lon2)) {
-                return 1;
-            }
-            return 0;
-        }
+    let a = Site {
+        lat: lat1,
+        lon: lon1,
+        alt_m: None,
+    };
+    let b = Site {
+        lat: lat2,
+        lon: lon2,
+        alt_m: None,
+    };
+    if sites::in_degrees(a) && sites::in_degrees(b) {
+        u8::from(sites::same_place(a, b))
+    } else {
+        4
     }
-    4
 }

@@ -1,22 +1,12 @@
 // The judging on numbers and a slice, for the comparison runs.
 ghost use Rattle.std.specs.Prelude.{◌≡◌, ◌≤◌};
-ghost use Rattle.probes.specs.Judged.{evidence_number, judgment_number, altitude_of, id_of, claimed_of, judged_number};
+ghost use Rattle.sites.specs.Sites.{given};
+ghost use Rattle.probes.specs.Judged.{judgment_number, without_degrees, judged_number};
 
-use near_field::{Evidence, Judgment};
-use sites::{Altitude, Claimed, Site};
-use view::EpochId;
+use near_field::Judgment;
+use sites::Site;
 
-fn evidence_number(e: Evidence) -> u32
-    ensures { result ≡ evidence_number e }
-{
-    match e {
-        Evidence::Horizon => 1,
-        Evidence::NearField => 2,
-        Evidence::NothingNear => 3,
-    }
-}
-
-// Every distance that a judging says is at most 800, so that the number fits.
+// Every distance that a judging says is at most 800, so that the number fits. It is what C is given, so a match names it.
 fn judgment_number(j: Judgment) -> u32
     requires { judgment_number j ≤ 3203 }
     ensures { result ≡ judgment_number j }
@@ -24,46 +14,40 @@ fn judgment_number(j: Judgment) -> u32
     match j {
         Judgment::Unjudged => 0,
         Judgment::Fits => 1,
-        Judgment::Wrong { off_km, by } => 4 * off_km + evidence_number(by),
+        Judgment::Wrong { off_km, by } => 4 * off_km + by as u32,
     }
 }
 
-fn altitude_of(tag: u8, m: i32) -> Altitude
-    ensures { result ≡ altitude_of tag m }
+// The number of a judging of a row's 3,344 cells; 2 where there are not as many cells.
+#[tactic(auto, unfolding(crate::specs::Judged::judged_number))]
+pub fn judged(
+    cells: &[u32],
+    site: Option<Site>,
+    even: Option<u64>,
+    odd: Option<u64>,
+    now_ms: u64,
+    aircraft: u64,
+) -> u32
+    ensures { result ≡ judged_number cells.now site even odd now_ms aircraft }
 {
-    if tag == 0 {
-        Altitude::Unknown
-    } else {
-        Altitude::Metres(m)
+    if cells.len() != 3344 {
+        return 2;
     }
+    judgment_number(judge::judge(site, even, odd, cells, now_ms, aircraft))
 }
 
-fn id_of(tag: u8, id: u64) -> EpochId
-    ensures { result ≡ id_of tag id }
+// A site of a judging, which looks at no degrees: they are 0.
+pub fn without_degrees(alt_m: Option<i32>) -> Site
+    ensures { result ≡ without_degrees alt_m }
 {
-    if tag == 0 {
-        EpochId::Nothing
-    } else {
-        EpochId::Id(id)
+    Site {
+        lat: 0.0,
+        lon: 0.0,
+        alt_m,
     }
 }
 
-// A judging looks at no degrees: they are 0.
-fn claimed_of(tag: u8, altitude: Altitude) -> Claimed
-    ensures { result ≡ claimed_of tag altitude }
-{
-    if tag == 0 {
-        Claimed::Nowhere
-    } else {
-        Claimed::At(Site {
-            lat: 0.0,
-            lon: 0.0,
-            alt_m: altitude,
-        })
-    }
-}
-
-// The judging of a row's 3,344 cells, a tag of 0 standing for none; 2 where there are not as many cells.
+// The same of what C hands over, which has no Option: a tag of 0 says that the value behind it is none.
 pub fn probe_judge(
     cells: &[u32],
     even_tag: u8,
@@ -76,13 +60,11 @@ pub fn probe_judge(
     now_ms: u64,
     aircraft: u64,
 ) -> u32
-    ensures { result ≡ judged_number cells.now (claimed_of site_tag (altitude_of alt_tag alt)) (id_of even_tag even_id) (id_of odd_tag odd_id) now_ms aircraft }
+    ensures { result ≡ judged_number cells.now (given site_tag (without_degrees (given alt_tag alt))) (given even_tag even_id) (given odd_tag odd_id) now_ms aircraft }
 {
-    if cells.len() == 3344 {
-        let site = claimed_of(site_tag, altitude_of(alt_tag, alt));
-        let even = id_of(even_tag, even_id);
-        let odd = id_of(odd_tag, odd_id);
-        return judgment_number(judge::judge(site, even, odd, cells, now_ms, aircraft));
-    }
-    2
+    let alt_m = (alt_tag != 0).then_some(alt);
+    let site = (site_tag != 0).then_some(without_degrees(alt_m));
+    let even = (even_tag != 0).then_some(even_id);
+    let odd = (odd_tag != 0).then_some(odd_id);
+    judged(cells, site, even, odd, now_ms, aircraft)
 }

@@ -1,9 +1,11 @@
-// The functions of `probes` as an archive for C: a crate that others stand on is no archive, so each is called from here, and its clause stated again.
+// The functions of `probes` as an archive for C: a crate that others stand on is no archive, so each is called from here under the name that C knows, and its
+// clause stated again.
 #![tactic(auto)]
 
 ghost use Rattle.std.specs.Prelude.{◌≡◌};
+ghost use Rattle.sites.specs.Sites.{given};
 ghost use Rattle.probes.specs.Columns.{column_answer};
-ghost use Rattle.probes.specs.Judged.{altitude_of, id_of, claimed_of, judged_number};
+ghost use Rattle.probes.specs.Judged.{without_degrees, judged_number};
 ghost use Rattle.probes.specs.Probes.{same_answer};
 
 // 1 where the two are one place, 0 where not, 4 for a "no" to question 4.
@@ -36,7 +38,7 @@ pub extern "C" fn probe_judge(
     now_ms: u64,
     aircraft: u64,
 ) -> u32
-    ensures { result ≡ judged_number cells.now (claimed_of site_tag (altitude_of alt_tag alt)) (id_of even_tag even_id) (id_of odd_tag odd_id) now_ms aircraft }
+    ensures { result ≡ judged_number cells.now (given site_tag (without_degrees (given alt_tag alt))) (given even_tag even_id) (given odd_tag odd_id) now_ms aircraft }
 {
     probes::row::probe_judge(
         cells, even_tag, even_id, odd_tag, odd_id, site_tag, alt_tag, alt, now_ms, aircraft,

@@ -1,9 +1,9 @@
 -- A row alone answers as a card (`row_is_card`). The card's ten clauses are a machine (`card_step_lem`), and the row that holds what a card holds, its verdict the one that the
 -- card's run leaves, does at each call what the card does (`acts_alike`).
+use Rattle.std.specs.Prelude.{Some, None, Option}
 use mathlib.Core.Path.{◌≡◌, refl, ap, ap₂, ◌∙◌}
 use Prim.Native.Nat.{ℕ}
 use mathlib.Core.Bool.{Bool, true, false, cond}
-use mathlib.Core.Option.{Option, none, some}
 use mathlib.Core.List.{List, [], ◌∷◌}
 use Rattle.table.specs.Machine.{Key, enters, uses, looks, Outcome, refuse, accept, Machine, Answer, Step}
 use Rattle.table.specs.Watch.{Body, rowed_machine}
@@ -13,8 +13,6 @@ use Rattle.near_field.specs.declared.Judgment.TheVariants.{Unjudged, Fits, Wrong
 use Rattle.heard.specs.declared.Heard.{Heard}
 use Rattle.receiver.specs.declared.Part.{Part}
 use Rattle.verdicts.specs.declared.Verdict.{Verdict}
-use Rattle.verdicts.specs.declared.Judged.{Judged}
-use Rattle.verdicts.specs.declared.Judged.TheVariants.{With, Never}
 use Rattle.verdicts.specs.Verdict.{wrongly, otherwise, judged_once, goes_on, too_soon}
 use Rattle.heard.specs.Heard.{empty_cells, unheard, Moved, moved, stayed, claimed, positioned}
 use Rattle.receiver.specs.Calls.{Act, claim, position, judging, check, take_out, Out, generation_is, judgment_is, says, freed, done, kind, ended_by, claim_done, position_done, judging_of, judging_done, check_done, row_act, siting}
@@ -54,28 +52,28 @@ claim_settles : (m : Option Card) (c : Card) (r : Outcome (Body Heard) Moved) �
 claim_settles m c (refuse n) = refl
 claim_settles m c (accept b v) = refl
 
-place_settles : (c : Card) (r : Outcome (Body Heard) (Unit {0})) → card_placed c r ≡ settle kind card_machine uses (some c) (place_on c r)
+place_settles : (c : Card) (r : Outcome (Body Heard) (Unit {0})) → card_placed c r ≡ settle kind card_machine uses (Some c) (place_on c r)
 place_settles c (refuse n) = refl
 place_settles c (accept b u) = refl
 
-judge_settles : (c : Card) (now : ℕ) (j : Judgment) → card_judged c now j ≡ settle kind card_machine looks (some c) (judge_on c now j)
+judge_settles : (c : Card) (now : ℕ) (j : Judgment) → card_judged c now j ≡ settle kind card_machine looks (Some c) (judge_on c now j)
 judge_settles c now j = by_bool (too_soon c.judged_ms now) (λ p. rw p) (λ p. rw p)
 
-check_settles : (c : Card) (r : Run) → card_checked c r ≡ settle kind card_machine looks (some c) (check_on c r)
+check_settles : (c : Card) (r : Run) → card_checked c r ≡ settle kind card_machine looks (Some c) (check_on c r)
 check_settles c [] = refl
 check_settles c (j ∷ r) = refl
 
 pub card_step_lem : (k : Key) (m : Option Card) (a : Act) → card_step k m a ≡ alone kind card_machine k m a
-card_step_lem k none (claim x) = claim_settles none filled (claimed unheard empty_cells x)
-card_step_lem k none (position p) = refl
-card_step_lem k none (judging now aircraft) = refl
-card_step_lem k none check = refl
-card_step_lem k none take_out = refl
-card_step_lem k (some c) (claim x) = claim_settles (some c) c (claimed c.heard c.cells x)
-card_step_lem k (some c) (position p) = place_settles c (positioned c.heard c.cells p)
-card_step_lem k (some c) (judging now aircraft) = judge_settles c now (judging_of c.heard c.cells now aircraft)
-card_step_lem k (some c) check = check_settles c c.run
-card_step_lem k (some c) take_out = refl
+card_step_lem k None (claim x) = claim_settles None filled (claimed unheard empty_cells x)
+card_step_lem k None (position p) = refl
+card_step_lem k None (judging now aircraft) = refl
+card_step_lem k None check = refl
+card_step_lem k None take_out = refl
+card_step_lem k (Some c) (claim x) = claim_settles (Some c) c (claimed c.heard c.cells x)
+card_step_lem k (Some c) (position p) = place_settles c (positioned c.heard c.cells p)
+card_step_lem k (Some c) (judging now aircraft) = judge_settles c now (judging_of c.heard c.cells now aircraft)
+card_step_lem k (Some c) check = check_settles c c.run
+card_step_lem k (Some c) take_out = refl
 
 pub card_answers_lem : (k : Key) (m : Option Card) (l : List Act) → card_answers k m l ≡ answers_alone kind card_machine k m l
 card_answers_lem k m [] = refl
@@ -92,9 +90,9 @@ card_after_lem k m (a ∷ l) = card_after_lem k (card_step k m a).next l ∙ ap 
 abbrev with_moved : Verdict → Bool → Verdict
 with_moved v b = record { last = v.last; wrong_run = v.wrong_run; other_run = v.other_run; wrong_by = v.wrong_by; moved = b }
 
-abbrev verdict_at : Run → Bool → Judged
-verdict_at [] b = Never
-verdict_at (j ∷ r) b = With (with_moved (verdict_of (j ∷ r)) b)
+abbrev verdict_at : Run → Bool → Option Verdict
+verdict_at [] b = None
+verdict_at (j ∷ r) b = Some (with_moved (verdict_of (j ∷ r)) b)
 
 abbrev row_of : Card → Body Part
 row_of c = record { part = record { heard = c.heard; verdict = verdict_at c.run c.note; judged_ms = c.judged_ms }; cells = c.cells }
@@ -140,5 +138,5 @@ acts_alike k c check = check_alike (row_of c) c refl c.run c.note
 acts_alike k c take_out = refl
 
 -- A ROW ALONE ANSWERS AS ITS CARD
-pub row_is_card : (k : Key) (l : List Act) → answers_alone kind (rowed_machine siting) k none l ≡ answers_alone kind card_machine k none l
+pub row_is_card : (k : Key) (l : List Act) → answers_alone kind (rowed_machine siting) k None l ≡ answers_alone kind card_machine k None l
 row_is_card k l = answers_alike kind card_machine (rowed_machine siting) row_of refl acts_alike k l

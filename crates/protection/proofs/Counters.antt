@@ -1,5 +1,6 @@
 -- A row's counters and a card's run agree: check says the same of both (`says_agree`). The two counts are the newest Wrongs and the newest others in a row, stopped at
 -- 255; three is below that, so the tests on them are the run's; the distance held is the last Wrong's while the run is held wrong.
+use Rattle.std.specs.Prelude.{Some, None, Option}
 use mathlib.Core.Path.{◌≡◌, refl}
 use Prim.Native.Nat.{ℕ, suc, min}
 use native.Mathlib.Omega.{arith}
@@ -9,8 +10,6 @@ use lib.Dec.{leb}
 use Rattle.near_field.specs.declared.Judgment.{Judgment}
 use Rattle.near_field.specs.declared.Judgment.TheVariants.{Unjudged, Fits, Wrong}
 use Rattle.verdicts.specs.declared.Last.{Last}
-use Rattle.verdicts.specs.declared.WrongBy.{WrongBy}
-use Rattle.verdicts.specs.declared.WrongBy.TheVariants.{Km, Nothing}
 use Rattle.verdicts.specs.declared.Verdict.{Verdict}
 use Rattle.verdicts.specs.declared.CheckState.TheVariants as Says
 use Rattle.verdicts.specs.Verdict.{up, is_held, wrongly, otherwise, judged_once, begun, plainly, says_by, says_verdict}
@@ -62,13 +61,13 @@ three_out p j (a ∷ b ∷ r) e = rw e
 record Agree (r : Run) : Type 0 where
   wrongs : (verdict_of r).wrong_run ≡ min 255 (lead is_wrong r)
   others : (verdict_of r).other_run ≡ min 255 (lead is_other r)
-  by : (verdict_of r).wrong_by ≡ cond (held r) (Km (last_wrong r)) Nothing
+  by : (verdict_of r).wrong_by ≡ cond (held r) (Some (last_wrong r)) None
 
-held_cond : (b : Bool) (d : ℕ) → is_held (cond b (Km d) Nothing) ≡ b
+held_cond : (b : Bool) (d : ℕ) → is_held (cond b (Some d) None) ≡ b
 held_cond true d = refl
 held_cond false d = refl
 
-by_other : (t h : Bool) (o : WrongBy) → cond t Nothing (cond h o Nothing) ≡ cond (false || (not t && h)) o Nothing
+by_other : (t h : Bool) (o : Option ℕ) → cond t None (cond h o None) ≡ cond (false || (not t && h)) o None
 by_other true h o = refl
 by_other false h o = refl
 
@@ -90,7 +89,7 @@ agree_other j r k w l v a =
     record {
       wrongs = rw (v, w);
       others = rw v q;
-      by = rw (v, q, three_lead is_other (j ∷ r), a.by, l, three_out is_wrong j r w) (by_other (three_newest is_other (j ∷ r)) (held r) (Km (last_wrong r)));
+      by = rw (v, q, three_lead is_other (j ∷ r), a.by, l, three_out is_wrong j r w) (by_other (three_newest is_other (j ∷ r)) (held r) (Some (last_wrong r)));
     }
 
 agree : (r : Run) → Agree r
@@ -105,7 +104,7 @@ last_is (Wrong d e) r = refl
 last_is Fits r = refl
 last_is Unjudged r = refl
 
-says_cond : (b : Bool) (d : ℕ) (l : Last) → says_by (cond b (Km d) Nothing) l ≡ cond b (Says.Wrong d) (plainly l)
+says_cond : (b : Bool) (d : ℕ) (l : Last) → says_by (cond b (Some d) None) l ≡ cond b (Says.Wrong d) (plainly l)
 says_cond true d l = refl
 says_cond false d l = refl
 

@@ -1,9 +1,9 @@
 -- The facts of specs/Facts: a watch that passes questions 1 and 2 passes them again after every call (crate `table`, `passes_again`), and a fresh one passes; a row is pushed
 -- out as the table's entry is (Pushed).
+use Rattle.std.specs.Prelude.{None}
 use mathlib.Core.Path.{◌≡◌, sym, subst, fun_ext}
 use Prim.Native.Nat.{ℕ, ◌≤◌}
 use mathlib.Core.Bool.{Bool, true}
-use mathlib.Core.Option.{none}
 use mathlib.Core.List.{List, [], ◌∷◌}
 use lib.ListN.{length}
 use Rattle.table.specs.Machine.{Event}
@@ -46,5 +46,5 @@ never_no C one m calls = all_pass (fresh_watch siting.form C) calls (fresh_passe
 
 pub not_pushed_out : NotPushedOut
 not_pushed_out C one m k calls =
-    subst (λ (f : Act → Bool). Stays f C k none (told C calls)) (sym (fun_ext marks_are))
-    (subst (λ (h : List (Event Act Out)). Stays (λ a. marks (kind a)) C k none h) (sym (told_is_table C one m calls)) (stays kind (rowed_machine siting) C one k calls))
+    subst (λ (f : Act → Bool). Stays f C k None (told C calls)) (sym (fun_ext marks_are))
+    (subst (λ (h : List (Event Act Out)). Stays (λ a. marks (kind a)) C k None h) (sym (told_is_table C one m calls)) (stays kind (rowed_machine siting) C one k calls))

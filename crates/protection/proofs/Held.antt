@@ -1,9 +1,9 @@
 -- Keys in the order of use: no key twice, how many keys can differ, and what finding, replacing, taking out and putting last do to the keys behind one.
+use Rattle.std.specs.Prelude.{Option, None, Some}
 use mathlib.Core.Path.{◌≡◌, refl, sym, ap, ◌∙◌}
 use Prim.Native.Nat.{suc, ◌≤◌}
 use native.Mathlib.Omega.{arith}
 use mathlib.Core.Bool.{Bool, true, false, cond, ◌||◌}
-use mathlib.Core.Option.{Option, none, some}
 use mathlib.Core.List.{List, [], ◌∷◌}
 use lib.ListN.{length, length-append}
 use Rattle.table.specs.Machine.{Key, same}
@@ -119,7 +119,7 @@ module _ {S : Type 0} where
   length_without j [] = omega arith
   length_without j (e ∷ t) = by_bool (same j e.key) (λ p. rw p (omega arith)) (λ p. rw p (omega (arith, length_without j t)))
 
-  pub length_without_held : (j : Key) (t : List (Entry S)) {s : S} → find j t ≡ some s → suc (length (without j t)) ≡ length t
+  pub length_without_held : (j : Key) (t : List (Entry S)) {s : S} → find j t ≡ Some s → suc (length (without j t)) ≡ length t
   length_without_held j [] h = cc
   length_without_held j (e ∷ t) h = by_bool (same j e.key) (λ p. rw p) (λ p. rw p (ap suc (length_without_held j t (rw p at h))))
 
@@ -127,13 +127,13 @@ module _ {S : Type 0} where
   length_replaced j s t = sym (keys_length (replaced j s t)) ∙ ap length (keys_replaced j s t) ∙ keys_length t
 
   -- FIND
-  pub find_member : (k : Key) (t : List (Entry S)) → member k (keys t) ≡ false → find k t ≡ none
+  pub find_member : (k : Key) (t : List (Entry S)) → member k (keys t) ≡ false → find k t ≡ None
   find_member k [] h = refl
   find_member k (e ∷ t) h = rw (none_1 (same k e.key) (member k (keys t)) h) (find_member k t (none_2 (same k e.key) (member k (keys t)) h))
 
-  pub member_find : (k : Key) (t : List (Entry S)) → find k t ≡ none → member k (keys t) ≡ false
+  pub member_find : (k : Key) (t : List (Entry S)) → find k t ≡ None → member k (keys t) ≡ false
   member_find k [] h = refl
-  member_find k (e ∷ t) h = by_bool (same k e.key) (λ p. let q : Path (Option S) (some e.state) none = rw p at h in cc) (λ p. rw p (member_find k t (rw p at h)))
+  member_find k (e ∷ t) h = by_bool (same k e.key) (λ p. let q : Path (Option S) (Some e.state) None = rw p at h in cc) (λ p. rw p (member_find k t (rw p at h)))
 
   pub find_without : (k j : Key) (t : List (Entry S)) → same k j ≡ false → find k (without j t) ≡ find k t
   find_without k j [] n = refl
@@ -150,11 +150,11 @@ module _ {S : Type 0} where
   find_replaced k j s [] n = refl
   find_replaced k j s (e ∷ t) n = by_bool (same j e.key) (λ p. rw (p, same_as k j e.key p, n)) (λ p. rw (p, find_replaced k j s t n))
 
-  pub find_last_own : (k : Key) (t : List (Entry S)) (s : S) → member k (keys t) ≡ false → find k (last t k s) ≡ some s
+  pub find_last_own : (k : Key) (t : List (Entry S)) (s : S) → member k (keys t) ≡ false → find k (last t k s) ≡ Some s
   find_last_own k [] s h = rw (same_refl k)
   find_last_own k (e ∷ t) s h = rw (none_1 (same k e.key) (member k (keys t)) h) (find_last_own k t s (none_2 (same k e.key) (member k (keys t)) h))
 
-  pub find_replaced_own : (k : Key) (s : S) (t : List (Entry S)) {x : S} → find k t ≡ some x → find k (replaced k s t) ≡ some s
+  pub find_replaced_own : (k : Key) (s : S) (t : List (Entry S)) {x : S} → find k t ≡ Some x → find k (replaced k s t) ≡ Some s
   find_replaced_own k s [] h = cc
   find_replaced_own k s (e ∷ t) h = by_bool (same k e.key) (λ p. rw (p, p)) (λ p. rw (p, p) (find_replaced_own k s t (rw p at h)))
 

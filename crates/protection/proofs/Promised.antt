@@ -1,11 +1,11 @@
 -- DEMAND 3, PROVED: `promise`. The watch answers a list of calls as the table in the order of use does (crate `table`, `histories`); the table answers a protected key as its row
 -- alone (Lru); a row alone answers as its card (Cards). A check after the list is one call more, and what a card says of it is read off its run (Runs).
+use Rattle.std.specs.Prelude.{Option, None, Some}
 use mathlib.Core.Path.{◌≡◌, refl, sym, ap, ◌∙◌, subst, fun_ext}
 use mathlib.Core.Logic.{◌↔◌}
 use Prim.Native.Nat.{ℕ, ◌≤◌}
 use native.Mathlib.Omega.{arith}
 use mathlib.Core.Bool.{Bool, true, false}
-use mathlib.Core.Option.{Option, none, some}
 use mathlib.Core.List.{List, [], ◌∷◌, ◌++◌, append_cancel_left, head-eq_of_cons-eq}
 use Rattle.table.specs.Machine.{Key, same, Call, Answer, said, Step, Event, history, after}
 use Rattle.table.specs.Questions.{most}
@@ -48,11 +48,11 @@ told_is_table C one m calls = histories kind siting lawful C one (most_is m) (fr
 answers : Answers
 answers C one m k calls p =
     let e = told_is_table C one m calls in
-    let q : Protected (λ a. marks (kind a)) C k none (told C calls) = subst (λ (f : Act → Bool). Protected f C k none (told C calls)) (fun_ext marks_are) p in
+    let q : Protected (λ a. marks (kind a)) C k None (told C calls) = subst (λ (f : Act → Bool). Protected f C k None (told C calls)) (fun_ext marks_are) p in
     ap (λ (h : List (Event Act Out)). answers_to k h) e
-    ∙ table_promise kind (rowed_machine siting) C one k calls (subst (λ (h : List (Event Act Out)). Protected (λ a. marks (kind a)) C k none h) e q)
+    ∙ table_promise kind (rowed_machine siting) C one k calls (subst (λ (h : List (Event Act Out)). Protected (λ a. marks (kind a)) C k None h) e q)
     ∙ row_is_card k (calls_of k calls)
-    ∙ sym (card_answers_lem k none (calls_of k calls))
+    ∙ sym (card_answers_lem k None (calls_of k calls))
 
 -- A LIST OF CALLS AND ONE MORE
 history_last : {W Act Out : Type 0} (step : W → Call Act → Step W Out) (w : W) (cs : List (Call Act)) (c : Call Act) →
@@ -84,47 +84,47 @@ plain_not (Wrong x e) d p = let z : ◌≡◌ {A = ℕ} 0 1 = cc in omega arith
 plain_not Fits d p = let z : ◌≡◌ {A = ℕ} 0 1 = cc in omega arith
 plain_not Unjudged d p = let z : ◌≡◌ {A = ℕ} 0 1 = cc in omega arith
 
-run_means : (c : Card) (d : ℕ) (r : Run) → ((card_checked c r).answer ≡ said none (says (Says.Wrong d))) ↔ (HeldWrong r × (d ≡ last_wrong r))
+run_means : (c : Card) (d : ℕ) (r : Run) → ((card_checked c r).answer ≡ said None (says (Says.Wrong d))) ↔ (HeldWrong r × (d ≡ last_wrong r))
 run_means c d [] = ((λ e. let z : ◌≡◌ {A = ℕ} 0 1 = cc in absurd (omega arith)), (λ h. clash (means_held [] h.0) refl))
 run_means c d (j ∷ r) = (there, back)
   where
-    there : (card_checked c (j ∷ r)).answer ≡ said none (says (Says.Wrong d)) → HeldWrong (j ∷ r) × (d ≡ last_wrong (j ∷ r))
+    there : (card_checked c (j ∷ r)).answer ≡ said None (says (Says.Wrong d)) → HeldWrong (j ∷ r) × (d ≡ last_wrong (j ∷ r))
     there e =
         let q : says_of j r ≡ Says.Wrong d = cc in
         by_bool (held (j ∷ r))
         (λ p. (held_means (j ∷ r) p, (let x : Says.Wrong (last_wrong (j ∷ r)) ≡ Says.Wrong d = rw p at q in cc)))
         (λ p. absurd (plain_not j d (rw p at q)))
 
-    back : HeldWrong (j ∷ r) × (d ≡ last_wrong (j ∷ r)) → (card_checked c (j ∷ r)).answer ≡ said none (says (Says.Wrong d))
+    back : HeldWrong (j ∷ r) × (d ≡ last_wrong (j ∷ r)) → (card_checked c (j ∷ r)).answer ≡ said None (says (Says.Wrong d))
     back h = rw (means_held (j ∷ r) h.0, h.1)
 
-card_means : (k : Key) (d : ℕ) (m : Option Card) → ((card_step k m check).answer ≡ said none (says (Says.Wrong d))) ↔ ((c : Card) × (m ≡ some c) × HeldWrong c.run × (d ≡ last_wrong c.run))
-card_means k d none = ((λ e. let z : ◌≡◌ {A = ℕ} 0 1 = cc in absurd (omega arith)), (λ h. let q : Path (Option Card) none (some h.0) = h.1 in let z : ◌≡◌ {A = ℕ} 0 1 = cc in absurd (omega arith)))
-card_means k d (some c) = (
+card_means : (k : Key) (d : ℕ) (m : Option Card) → ((card_step k m check).answer ≡ said None (says (Says.Wrong d))) ↔ ((c : Card) × (m ≡ Some c) × HeldWrong c.run × (d ≡ last_wrong c.run))
+card_means k d None = ((λ e. let z : ◌≡◌ {A = ℕ} 0 1 = cc in absurd (omega arith)), (λ h. let q : Path (Option Card) None (Some h.0) = h.1 in let z : ◌≡◌ {A = ℕ} 0 1 = cc in absurd (omega arith)))
+card_means k d (Some c) = (
   (λ e. let h = (run_means c d c.run).0 e in (c, refl, h.0, h.1)),
-  (λ h. let q : c ≡ h.0 = (let p : Path (Option Card) (some c) (some h.0) = h.1 in cc) in
+  (λ h. let q : c ≡ h.0 = (let p : Path (Option Card) (Some c) (Some h.0) = h.1 in cc) in
       (run_means c d c.run).1 (subst (λ (x : Card). HeldWrong x.run × (d ≡ last_wrong x.run)) (sym q) (h.2, h.3))),
 )
 
 -- A CHECK AFTER THE LIST is the card's: the answers with it are the card's, and so are those before it
 check_is_card : (C : ℕ) → 1 ≤ C → C ≤ 4096 → (k : Key) (calls : List (Call Act)) → Safe C k calls →
-    own (call_on (watch_after C calls) k check).answer ≡ (card_step k (card_after k none (calls_of k calls)) check).answer
+    own (call_on (watch_after C calls) k check).answer ≡ (card_step k (card_after k None (calls_of k calls)) check).answer
 check_is_card C one m k calls p =
     let c : Call Act = record { key = k; act = check } in
     let e : Event Act Out = record { call = c; answer = (call_on (watch_after C calls) k check).answer } in
     let mine = calls_of k calls in
     let x = own e.answer in
-    let y = (card_step k (card_after k none mine) check).answer in
+    let y = (card_step k (card_after k None mine) check).answer in
     let long : told C (calls ++ (c ∷ [])) ≡ told C calls ++ (e ∷ []) = history_last (watch_step kind siting) (fresh_watch siting.form C) calls c in
-    let whole = answers C one m k (calls ++ (c ∷ [])) (subst (λ (h : List (Event Act Out)). Protected marks_key C k none h) (sym long) (protected_last marks_key C k none (told C calls) e refl p)) in
-    let both : answers_to k (told C calls) ++ (x ∷ []) ≡ card_answers k none mine ++ (y ∷ []) =
-    sym (ap (λ (h : List (Event Act Out)). answers_to k h) long ∙ answers_last k (told C calls) e (same_refl k)) ∙ whole ∙ ap (λ (l : List Act). card_answers k none l) (calls_last k calls c (same_refl k)) ∙ card_last k none mine check in
+    let whole = answers C one m k (calls ++ (c ∷ [])) (subst (λ (h : List (Event Act Out)). Protected marks_key C k None h) (sym long) (protected_last marks_key C k None (told C calls) e refl p)) in
+    let both : answers_to k (told C calls) ++ (x ∷ []) ≡ card_answers k None mine ++ (y ∷ []) =
+    sym (ap (λ (h : List (Event Act Out)). answers_to k h) long ∙ answers_last k (told C calls) e (same_refl k)) ∙ whole ∙ ap (λ (l : List Act). card_answers k None l) (calls_last k calls c (same_refl k)) ∙ card_last k None mine check in
     head-eq_of_cons-eq (append_cancel_left (answers_to k (told C calls)) (x ∷ []) (y ∷ []) (both ∙ ap (λ (l : List (Answer Out)). l ++ (y ∷ [])) (sym (answers C one m k calls p))))
 
 checks : Checks
 checks C one m k calls p d =
     let now = check_is_card C one m k calls p in
-    let means = card_means k d (card_after k none (calls_of k calls)) in
+    let means = card_means k d (card_after k None (calls_of k calls)) in
     ((λ e. means.0 (sym now ∙ e)), (λ h. now ∙ means.1 h))
 
 -- DEMAND 3

@@ -1,9 +1,9 @@
 -- Worked examples: P6, P7, P9, two runs more, Item 3 of 02, and that demand 3 is not empty. The site is at 0, 0 degrees.
+use Rattle.std.specs.Prelude.{Some, None}
 use mathlib.Core.Path.{◌≡◌, refl, sym, ap, ◌∙◌, subst}
 use Prim.Native.Nat.{ℕ, ◌+◌, ◌^◌, ◌≤◌, ◌<◌}
 use native.Mathlib.Omega.{arith}
 use mathlib.Core.Bool.{true, false}
-use mathlib.Core.Option.{none, some}
 use mathlib.Core.List.{List, [], ◌∷◌}
 use lib.Dec.{lit<, lit≤}
 use lib.Ieee.{Float, fin}
@@ -13,15 +13,11 @@ use Rattle.table.specs.Watch.{rowed_machine}
 use Rattle.table.proofs.Order.{table_step}
 use Rattle.table.proofs.Tests.{ltb_yes}
 use Rattle.measures.specs.Degrees.{within}
-use Rattle.sites.specs.declared.Altitude.TheVariants as Altitudes
-use Rattle.sites.specs.declared.Claimed.TheVariants.{At, Nowhere}
-use Rattle.cells.specs.declared.Height.TheVariants.{Unknown}
 use Rattle.near_field.specs.declared.Judgment.{Judgment}
 use Rattle.near_field.specs.declared.Judgment.TheVariants.{Unjudged, Fits, Wrong}
 use Rattle.near_field.specs.declared.Evidence.TheVariants.{Horizon}
 use Rattle.judge.specs.Judging.{judge_of}
 use Rattle.verdicts.specs.declared.CheckState.TheVariants as Says
-use Rattle.verdicts.specs.declared.JudgedAt.TheVariants as Kept
 use Rattle.receiver.specs.Calls.{Act, claim, position, judging, check, take_out, Out, generation_is, judgment_is, freed, done, kind, siting}
 use Rattle.verdicts.specs.Verdict.{wrongly, otherwise, says_verdict, too_soon}
 use Rattle.protection.specs.Marks.{calls_of, answers_to, Protected}
@@ -80,28 +76,28 @@ abbrev pub zero° : Float
 zero° = fin false 0 (pos 0)
 
 abbrev pub site : Act
-site = claim (At (record { lat = zero°; lon = zero°; alt_m = Altitudes.Unknown }))
+site = claim (Some (record { lat = zero°; lon = zero°; alt_m = None }))
 
 abbrev pub at : ℕ → Act
-at ms = position (record { lat = zero°; lon = zero°; feet = Unknown; address = 0; at_ms = ms })
+at ms = position (record { lat = zero°; lon = zero°; feet = None; address = 0; at_ms = ms })
 
 -- P7: at_ms 0, then 86,400,000, then 43,199,999: the last gets 6. (43,200,000 does not: the other half has no id.)
-pub p7 : card_answers a none (site ∷ at 0 ∷ at 86400000 ∷ at 43199999 ∷ at 43200000 ∷ []) ≡ (said none (generation_is 1) ∷ said none done ∷ said none done ∷ refused 6 ∷ said none done ∷ [])
+pub p7 : card_answers a None (site ∷ at 0 ∷ at 86400000 ∷ at 43199999 ∷ at 43200000 ∷ []) ≡ (said None (generation_is 1) ∷ said None done ∷ said None done ∷ refused 6 ∷ said None done ∷ [])
 unfolding within
 p7 = refl
 
 -- Item 3 of 02, on a card: 3 before it is filled; then no judging is too soon. After one at 5, the next gets 9 up to 1,800,004, and is accepted at 1,800,005; a clock gone
 -- back gets 9, a move does not change that. What got 9 was not kept. Filled again after a take-out, no judging is too soon.
 abbrev unjudged : Answer Out
-unjudged = said none (judgment_is Unjudged)
+unjudged = said None (judgment_is Unjudged)
 
-pub item3 : card_answers a none (judging 5 0 ∷ claim Nowhere ∷ judging 5 0 ∷ judging 1800004 0 ∷ judging 1800005 0 ∷ judging 4 0 ∷ site ∷ judging 3600004 0 ∷ judging 3600005 0 ∷ take_out ∷ claim Nowhere ∷ judging 0 0 ∷ [])
-    ≡ (refused 3 ∷ said none (generation_is 0) ∷ unjudged ∷ refused 9 ∷ unjudged ∷ refused 9 ∷ said none (generation_is 1) ∷ refused 9 ∷ unjudged ∷ said none (freed a) ∷ said none (generation_is 0) ∷ unjudged ∷ [])
+pub item3 : card_answers a None (judging 5 0 ∷ claim None ∷ judging 5 0 ∷ judging 1800004 0 ∷ judging 1800005 0 ∷ judging 4 0 ∷ site ∷ judging 3600004 0 ∷ judging 3600005 0 ∷ take_out ∷ claim None ∷ judging 0 0 ∷ [])
+    ≡ (refused 3 ∷ said None (generation_is 0) ∷ unjudged ∷ refused 9 ∷ unjudged ∷ refused 9 ∷ said None (generation_is 1) ∷ refused 9 ∷ unjudged ∷ said None (freed a) ∷ said None (generation_is 0) ∷ unjudged ∷ [])
 unfolding within judge_of
 item3 = refl
 
 -- A kept number near 2^64 makes every judging too soon: the sum does not wrap.
-pub item3_top : (ms now : ℕ) → 2 ^ 64 ≤ ms + 1800000 → now < 2 ^ 64 → too_soon (Kept.At ms) now ≡ true
+pub item3_top : (ms now : ℕ) → 2 ^ 64 ≤ ms + 1800000 → now < 2 ^ 64 → too_soon (Some ms) now ≡ true
 item3_top ms now h k = ltb_yes now (ms + 1800000) (omega arith)
 
 -- P9: C = 2: claim a (with a site), claim b, position a, claim c pushes out b.
@@ -109,7 +105,7 @@ abbrev pub p9_calls : List (Call Act)
 p9_calls = by a site ∷ by b site ∷ by a (at 0) ∷ by c site ∷ by b check ∷ by a check ∷ []
 
 abbrev pub p9_answers : List (Answer Out)
-p9_answers = said none (generation_is 1) ∷ said none (generation_is 1) ∷ said none done ∷ said (some b) (generation_is 1) ∷ refused 3 ∷ refused 7 ∷ []
+p9_answers = said None (generation_is 1) ∷ said None (generation_is 1) ∷ said None done ∷ said (Some b) (generation_is 1) ∷ refused 3 ∷ refused 7 ∷ []
 
 -- on the table, which computes, and so on the watch of rows and links
 p9_table : told 2 p9_calls ≡ history (table_step kind (rowed_machine siting) 2) [] p9_calls
@@ -123,25 +119,25 @@ pub p9 : answers_of (told 2 p9_calls) ≡ p9_answers
 p9 = ap answers_of p9_table ∙ on_table
 
 -- a is protected there: at no point were two others marked since its latest mark
-safe_table : Protected marks_key 2 a none (history (table_step kind (rowed_machine siting) 2) [] p9_calls)
+safe_table : Protected marks_key 2 a None (history (table_step kind (rowed_machine siting) 2) [] p9_calls)
 unfolding within
 safe_table = (tt, (lit< tt, (lit< tt, (lit< tt, (lit< tt, (lit< tt, lit< tt))))))
 
 pub p9_safe : Safe 2 a p9_calls
-p9_safe = subst (λ (h : List (Event Act Out)). Protected marks_key 2 a none h) (sym p9_table) safe_table
+p9_safe = subst (λ (h : List (Event Act Out)). Protected marks_key 2 a None h) (sym p9_table) safe_table
 
 -- so its answers are its card's
-pub p9_a : answers_to a (told 2 p9_calls) ≡ card_answers a none (calls_of a p9_calls)
+pub p9_a : answers_to a (told 2 p9_calls) ≡ card_answers a None (calls_of a p9_calls)
 p9_a = promise.answers 2 (lit≤ tt) (lit≤ tt) a p9_calls p9_safe
 
 -- b is not: two others were marked since, and its check gets 3 where its card says 7
-b_table : answers_to b (history (table_step kind (rowed_machine siting) 2) [] p9_calls) ≡ (said none (generation_is 1) ∷ refused 3 ∷ [])
+b_table : answers_to b (history (table_step kind (rowed_machine siting) 2) [] p9_calls) ≡ (said None (generation_is 1) ∷ refused 3 ∷ [])
 unfolding within
 b_table = refl
 
-pub p9_b : answers_to b (told 2 p9_calls) ≡ (said none (generation_is 1) ∷ refused 3 ∷ [])
+pub p9_b : answers_to b (told 2 p9_calls) ≡ (said None (generation_is 1) ∷ refused 3 ∷ [])
 p9_b = ap (λ (h : List (Event Act Out)). answers_to b h) p9_table ∙ b_table
 
-pub p9_b_card : card_answers b none (calls_of b p9_calls) ≡ (said none (generation_is 1) ∷ refused 7 ∷ [])
+pub p9_b_card : card_answers b None (calls_of b p9_calls) ≡ (said None (generation_is 1) ∷ refused 7 ∷ [])
 unfolding within
 p9_b_card = refl

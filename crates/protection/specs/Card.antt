@@ -1,12 +1,9 @@
 -- A receiver's card (01, 'A receiver's card'), call by call. Definitions only.
-use Rattle.std.specs.Prelude.{ℕ, Bool, true, false, cond, List, [], ◌∷◌}
-use Rattle.std.proofs.Math.Option.{Option, none, some}
+use Rattle.std.specs.Prelude.{ℕ, Bool, true, false, cond, List, [], ◌∷◌, Some, None, Option}
 use Rattle.table.specs.Machine.{Key, Outcome, refuse, accept, Answer, refused, said, Step}
 use Rattle.table.specs.Watch.{Body}
 use Rattle.near_field.specs.declared.Judgment.{Judgment}
 use Rattle.heard.specs.declared.Heard.{Heard}
-use Rattle.verdicts.specs.declared.JudgedAt.{JudgedAt}
-use Rattle.verdicts.specs.declared.JudgedAt.TheVariants as Kept
 use Rattle.heard.specs.Heard.{empty_cells, unheard, Moved, moved, stayed, claimed, positioned}
 use Rattle.receiver.specs.Calls.{Act, claim, position, judging, check, take_out, Out, generation_is, judgment_is, says, freed, done, judging_of}
 use Rattle.verdicts.specs.Verdict.{too_soon}
@@ -19,11 +16,11 @@ pub record Card : Type 0 where
   pub cells : List ℕ
   pub run : Run
   pub note : Bool
-  pub judged_ms : JudgedAt
+  pub judged_ms : Option ℕ
 
 -- A blank card is first filled as a fresh row, its run empty and no move noted.
 abbrev pub filled : Card
-filled = record { heard = unheard; cells = empty_cells; run = []; note = false; judged_ms = Kept.Never }
+filled = record { heard = unheard; cells = empty_cells; run = []; note = false; judged_ms = None }
 
 abbrev pub noted : Moved → Bool → Bool
 noted moved b = true
@@ -34,7 +31,7 @@ abbrev pub left : Option Card → ℕ → Step (Option Card) Out
 left m n = record { next = m; answer = refused n }
 
 abbrev pub answered : Card → Out → Step (Option Card) Out
-answered c o = record { next = some c; answer = said none o }
+answered c o = record { next = Some c; answer = said None o }
 
 -- Claim: any card changes as under Claims, and if that is a move, it is noted.
 abbrev pub card_claimed : Option Card → Card → Outcome (Body Heard) Moved → Step (Option Card) Out
@@ -43,33 +40,33 @@ card_claimed m c (accept b v) = answered (record { heard = b.part; cells = b.cel
 
 -- Position: placed and counted as above.
 abbrev pub card_placed : Card → Outcome (Body Heard) (Unit {0}) → Step (Option Card) Out
-card_placed c (refuse n) = left (some c) n
+card_placed c (refuse n) = left (Some c) n
 card_placed c (accept b u) = answered (record { heard = b.part; cells = b.cells; run = c.run; note = c.note; judged_ms = c.judged_ms }) done
 
 -- Judging: a noted move empties the run and is struck; the judgment joins the run. (02, Item 3) A card keeps now_ms and asks 9 too.
 abbrev pub judged_card : Card → ℕ → Judgment → Card
-judged_card c now j = record { heard = c.heard; cells = c.cells; run = j ∷ cond c.note [] c.run; note = false; judged_ms = Kept.At now }
+judged_card c now j = record { heard = c.heard; cells = c.cells; run = j ∷ cond c.note [] c.run; note = false; judged_ms = Some now }
 
 abbrev pub card_judged : Card → ℕ → Judgment → Step (Option Card) Out
-card_judged c now j = cond (too_soon c.judged_ms now) (left (some c) 9) (answered (judged_card c now j) (judgment_is j))
+card_judged c now j = cond (too_soon c.judged_ms now) (left (Some c) 9) (answered (judged_card c now j) (judgment_is j))
 
 -- Check: as above, over this run. 7 asks if its run holds a judgment.
 abbrev pub card_checked : Card → Run → Step (Option Card) Out
-card_checked c [] = left (some c) 7
+card_checked c [] = left (Some c) 7
 card_checked c (j ∷ r) = answered c (says (says_of j r))
 
 -- One call on the card of key k. 3 asks if it is filled; 1 and 2 aren't asked of it, the others are as of a row. Take-out: blank again.
 abbrev pub card_step : Key → Option Card → Act → Step (Option Card) Out
-card_step k none (claim x) = card_claimed none filled (claimed unheard empty_cells x)
-card_step k none (position p) = left none 3
-card_step k none (judging now aircraft) = left none 3
-card_step k none check = left none 3
-card_step k none take_out = left none 3
-card_step k (some c) (claim x) = card_claimed (some c) c (claimed c.heard c.cells x)
-card_step k (some c) (position p) = card_placed c (positioned c.heard c.cells p)
-card_step k (some c) (judging now aircraft) = card_judged c now (judging_of c.heard c.cells now aircraft)
-card_step k (some c) check = card_checked c c.run
-card_step k (some c) take_out = record { next = none; answer = said none (freed k) }
+card_step k None (claim x) = card_claimed None filled (claimed unheard empty_cells x)
+card_step k None (position p) = left None 3
+card_step k None (judging now aircraft) = left None 3
+card_step k None check = left None 3
+card_step k None take_out = left None 3
+card_step k (Some c) (claim x) = card_claimed (Some c) c (claimed c.heard c.cells x)
+card_step k (Some c) (position p) = card_placed c (positioned c.heard c.cells p)
+card_step k (Some c) (judging now aircraft) = card_judged c now (judging_of c.heard c.cells now aircraft)
+card_step k (Some c) check = card_checked c c.run
+card_step k (Some c) take_out = record { next = None; answer = said None (freed k) }
 
 -- Its card is fed its calls' arguments, nothing else: its answers to them, and the card that they leave.
 abbrev pub card_answers : Key → Option Card → List Act → List (Answer Out)

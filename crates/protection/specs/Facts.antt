@@ -1,7 +1,6 @@
 -- What users ask of every list from a fresh watch, beside demand 3. Definitions only; proofs/Facts proves both. That two watches given the same list give
 -- the same answers and the same bytes needs no theorem: a call is a function of the watch and its arguments (`any_step`).
-use Rattle.std.specs.Prelude.{◌≡◌, ℕ, ◌≤◌, true, List, [], ◌∷◌}
-use Rattle.std.proofs.Math.Option.{none}
+use Rattle.std.specs.Prelude.{◌≡◌, ℕ, ◌≤◌, true, List, [], ◌∷◌, None}
 use Rattle.table.specs.Machine.{Key, Call, Step}
 use Rattle.table.specs.Rows.{Watch}
 use Rattle.table.specs.Questions.{question1, question2}
@@ -34,4 +33,4 @@ NeverNo =
 
 -- No row is pushed out while fewer than C others were marked since its key's latest mark, whatever came before.
 abbrev pub NotPushedOut : Type 0
-NotPushedOut = (C : ℕ) → 1 ≤ C → C ≤ 4096 → (k : Key) (calls : List (Call Act)) → Stays marks_key C k none (told C calls)
+NotPushedOut = (C : ℕ) → 1 ≤ C → C ≤ 4096 → (k : Key) (calls : List (Call Act)) → Stays marks_key C k None (told C calls)

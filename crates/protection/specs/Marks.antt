@@ -1,6 +1,5 @@
 -- A receiver's calls and answers in a list, and the marks of others (01, 'A receiver's card'), for any calls. Definitions only.
-use Rattle.std.specs.Prelude.{◌≡◌, ℕ, ◌<◌, Bool, true, false, cond, ◌&&◌, ◌||◌, List, [], ◌∷◌, length}
-use Rattle.std.proofs.Math.Option.{Option, none, some}
+use Rattle.std.specs.Prelude.{◌≡◌, ℕ, ◌<◌, Bool, true, false, cond, ◌&&◌, ◌||◌, List, [], ◌∷◌, length, Option, None, Some}
 use Rattle.table.specs.Machine.{Key, same, Call, Answer, refused, said, Event}
 
 -- A receiver is a key, its calls those naming it;
@@ -10,12 +9,12 @@ calls_of k (c ∷ cs) = cond (same k c.key) (c.act ∷ calls_of k cs) (calls_of 
 
 -- the key pushed out, which an answer carries; and an answer but for it
 abbrev pub pushed_key : {Out : Type 0} → Answer Out → Option Key
-pushed_key (refused n) = none
+pushed_key (refused n) = None
 pushed_key (said p o) = p
 
 abbrev pub own : {Out : Type 0} → Answer Out → Answer Out
 own (refused n) = refused n
-own (said p o) = said none o
+own (said p o) = said None o
 
 -- the answers to its calls
 abbrev pub answers_to : {Act Out : Type 0} → Key → List (Event Act Out) → List (Answer Out)
@@ -36,13 +35,13 @@ Since = Option (List Key)
 
 -- another key j is marked: it counts once
 abbrev pub another : Key → Since → Since
-another j none = none
-another j (some l) = some (cond (member j l) l (j ∷ l))
+another j None = None
+another j (Some l) = Some (cond (member j l) l (j ∷ l))
 
 -- fewer than C others
 abbrev pub Fewer : ℕ → Since → Type 0
-Fewer C none = Unit {0}
-Fewer C (some l) = length l < C
+Fewer C None = Unit {0}
+Fewer C (Some l) = length l < C
 
 -- `marks` says which calls mark their key where accepted
 module _ {Act Out : Type 0} (marks : Act → Bool) where
@@ -52,7 +51,7 @@ module _ {Act Out : Type 0} (marks : Act → Bool) where
 
   -- the receiver's own mark begins anew
   abbrev pub since : Key → Since → Event Act Out → Since
-  since k s e = cond (marking e) (cond (same k e.call.key) (some []) (another e.call.key s)) s
+  since k s e = cond (marking e) (cond (same k e.call.key) (Some []) (another e.call.key s)) s
 
   -- at every point of the list, its end included, fewer than C others were marked since k's latest mark
   abbrev pub Protected : ℕ → Key → Since → List (Event Act Out) → Type 0
@@ -62,4 +61,4 @@ module _ {Act Out : Type 0} (marks : Act → Bool) where
   -- no call of the list pushes k out, where fewer than C others were marked since k's latest mark, the call's own mark counted
   abbrev pub Stays : ℕ → Key → Since → List (Event Act Out) → Type 0
   Stays C k s [] = Unit {0}
-  Stays C k s (e ∷ l) = (Fewer C (since k s e) → pushed_key e.answer ≡ some k → ⊥) × Stays C k (since k s e) l
+  Stays C k s (e ∷ l) = (Fewer C (since k s e) → pushed_key e.answer ≡ Some k → ⊥) × Stays C k (since k s e) l

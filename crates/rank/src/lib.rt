@@ -1,27 +1,18 @@
 // One of some floats by its number in ascending order. They are not sorted: how many lie below each tells.
 #![tactic(auto)]
 
-ghost use Rattle.std.specs.Prelude.{◌≡◌, cond, ◌<◌, ◌≤◌, Float, get_or, length};
+ghost use Rattle.std.specs.Prelude.{◌≡◌, ◌<◌, ◌≤◌, Float, get_or, length};
 ghost use Rattle.std.specs.Float.{nan};
 ghost use Rattle.std.specs.Float.Ieee.{lt};
 ghost use Rattle.rank.specs.Rank.{sorted, AllGood, count};
-
-// 1 if yes, else 0.
-fn one(yes: bool) -> usize
-    ensures { (result ≡ cond yes 1 0) × (result ≤ 1) }
-{
-    if yes { 1 } else { 0 }
-}
 
 // How many of xs are less than x.
 fn below(xs: &[f64], x: f64) -> usize
     ensures { (result ≡ count (λ (y : Float). lt y x) xs.now) × (result ≤ length xs.now) }
 {
-    let mut n: usize = 0;
-    let mut i: usize = 0;
-    while i < xs.len() {
-        n += one(xs[i] < x);
-        i += 1;
+    let mut n = 0;
+    for y in xs {
+        n += (*y < x) as usize;
     }
     n
 }
@@ -34,17 +25,12 @@ pub fn nth(xs: &[f64], k: usize) -> f64
 {
     let mut low = 0.0;
     let mut high = 1.0 / 0.0;
-    let mut i: usize = 0;
-    while i < xs.len() {
-        let x = xs[i];
-        i += 1;
-        if low < x {
-            if x < high {
-                if below(xs, x) <= k {
-                    low = x;
-                } else {
-                    high = x;
-                }
+    for &x in xs {
+        if low < x && x < high {
+            if below(xs, x) <= k {
+                low = x;
+            } else {
+                high = x;
             }
         }
     }

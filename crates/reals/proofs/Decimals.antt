@@ -1,14 +1,11 @@
 -- Floats by their bits and as decimals: a quotient of two whole numbers that are floats exactly is the nearest float to the fraction.
-use Rattle.std.proofs.Common.{◌≡◌, ℕ, zero, suc, ◌+◌, ◌-◌, ◌*◌, ◌%◌, ◌^◌, ◌<◌, ◌≤◌, Bool, true, false, cond, not, T, ltb, List, [], length, take, drop, pos, sym, refl, ap, ◌∙◌, subst, mul_assoc, mul_comm, mul-pos, zero-mul, mul-one, arith, drop_of_length-le, le-ltb, lt-ltb, ne_eqb, le-leb}
+use Rattle.std.proofs.Common.{◌≡◌, ℕ, zero, suc, ◌+◌, ◌-◌, ◌*◌, ◌%◌, ◌^◌, ◌<◌, ◌≤◌, Bool, true, false, cond, not, T, ltb, List, [], length, take, drop, pos, sym, refl, ap, ◌∙◌, subst, mul_assoc, mul_comm, mul-pos, zero-mul, mul-one, arith, drop_of_length-le, le-ltb, lt-ltb, ne_eqb, le-leb, Some, None, Option}
 use native.Mathlib.Nat.{pow-le-pow_right}
 use borrow.Author.Tests.{lt-leb}
 use lib.Ieee.{Float, nan, inf, fin, Format, binary64, low, emax, prec, up, down, odd, units, round, neg, div, of_int, of_bits, is_nan, nan_bits}
 use Rattle.fields.specs.Text.{first_of}
 use Rattle.numbers.specs.Numbers.{number_on}
 use Rattle.reals.specs.Reals.{over_tens, then_on, point_of}
-use Rattle.numbers.specs.declared.Number.{Number}
-use Rattle.numbers.specs.declared.Number.TheVariants as number
-use Rattle.reals.specs.declared.Real.TheVariants as real
 use lib.Ieee.Exact.{HasValue}
 use lib.Ieee.Back.{round_whole}
 use lib.Ieee.Bits.{nan_bits_is, nan_bits_above}
@@ -85,30 +82,30 @@ quotient m k p x y h l ex ey ep =
     rw (ex, ey, ep) (over_wholes m (10 ^ k) (omega arith) (omega arith) (omega arith))
 
 -- ---- the ways out of reading a number with a point
-pub point_long : (minus : Bool) (s : List ℕ) → 16 < length s → point_of minus s ≡ real.Bad
+pub point_long : (minus : Bool) (s : List ℕ) → 16 < length s → point_of minus s ≡ None
 unfolding point_of
 point_long minus s h = rw (lt-leb (length s - 1) 15 (omega arith))
 
 module _ (minus : Bool) (s : List ℕ) (p : ℕ) (short : length s ≤ 16) (at : p ≡ first_of 46 s) where
-  point_step : (n : Number) → number_on 10 (10 ^ 15 - 1) 0 (take p s) ≡ n → point_of minus s ≡ over_tens minus (length s - (p + 1)) (then_on n (drop (p + 1) s))
+  point_step : (n : Option ℕ) → number_on 10 (10 ^ 15 - 1) 0 (take p s) ≡ n → point_of minus s ≡ over_tens minus (length s - (p + 1)) (then_on n (drop (p + 1) s))
   unfolding point_of
   point_step n e =
-      rw (le-leb (length s - 1) 15 (omega arith), ← at) (ap (λ (x : Number). over_tens minus (length s - (p + 1)) (then_on x (drop (p + 1) s))) e)
+      rw (le-leb (length s - 1) 15 (omega arith), ← at) (ap (λ (x : Option ℕ). over_tens minus (length s - (p + 1)) (then_on x (drop (p + 1) s))) e)
 
-  nothing : (n : Number) → then_on n [] ≡ number.Bad
+  nothing : (n : Option ℕ) → then_on n [] ≡ None
   unfolding number_on
-  nothing (number.Is w) = refl
-  nothing number.Bad = refl
+  nothing (Some w) = refl
+  nothing None = refl
 
-  pub point_none : length s ≤ p → point_of minus s ≡ real.Bad
+  pub point_none : length s ≤ p → point_of minus s ≡ None
   point_none h =
       point_step (number_on 10 (10 ^ 15 - 1) 0 (take p s)) refl
       ∙ ap (λ (t : List ℕ). over_tens minus (length s - (p + 1)) (then_on (number_on 10 (10 ^ 15 - 1) 0 (take p s)) t)) (drop_of_length-le s {i = p + 1} (omega arith))
       ∙ ap (over_tens minus (length s - (p + 1))) (nothing (number_on 10 (10 ^ 15 - 1) 0 (take p s)))
 
-  pub point_front : number_on 10 (10 ^ 15 - 1) 0 (take p s) ≡ number.Bad → point_of minus s ≡ real.Bad
-  point_front e = point_step number.Bad e
+  pub point_front : number_on 10 (10 ^ 15 - 1) 0 (take p s) ≡ None → point_of minus s ≡ None
+  point_front e = point_step None e
 
-  pub point_on : (w : ℕ) (n : Number) → number_on 10 (10 ^ 15 - 1) 0 (take p s) ≡ number.Is w → number_on 10 (10 ^ 15 - 1) w (drop (p + 1) s) ≡ n
+  pub point_on : (w : ℕ) (n : Option ℕ) → number_on 10 (10 ^ 15 - 1) 0 (take p s) ≡ Some w → number_on 10 (10 ^ 15 - 1) w (drop (p + 1) s) ≡ n
       → point_of minus s ≡ over_tens minus (length s - (p + 1)) n
-  point_on w n e g = point_step (number.Is w) e ∙ ap (over_tens minus (length s - (p + 1))) g
+  point_on w n e g = point_step (Some w) e ∙ ap (over_tens minus (length s - (p + 1))) g

@@ -1,5 +1,6 @@
 -- The calls leave a row that passes question 2 (`lawful`): a site that is stored was within degrees, a distance that is held was said by a judging, so it is a
 -- step of 5 from 5 to 800, and a row keeps its 3,344 cells.
+use Rattle.std.specs.Prelude.{Some, None, Option}
 use mathlib.Core.Path.{◌≡◌, refl, ◌∙◌, subst}
 use Prim.Native.Nat.{ℕ, ◌+◌, ◌%◌}
 use native.Mathlib.Omega.{arith}
@@ -16,19 +17,11 @@ use Rattle.table.proofs.Refine.{Lawful}
 use Rattle.measures.specs.Degrees.{in_degrees}
 use Rattle.sites.specs.Sites.{held, same_place, placed}
 use Rattle.sites.specs.declared.Site.{Site}
-use Rattle.sites.specs.declared.Claimed.{Claimed}
-use Rattle.sites.specs.declared.Claimed.TheVariants.{At, Nowhere}
 use Rattle.cells.specs.Cells.{empty_word, added_word, bucket_of, aircraft_bit}
 use Rattle.near_field.specs.declared.Judgment.{Judgment}
 use Rattle.near_field.specs.declared.Judgment.TheVariants.{Unjudged, Fits, Wrong}
 use Rattle.judge.proofs.Distances.{judge_distance}
-use Rattle.verdicts.specs.declared.WrongBy.{WrongBy}
-use Rattle.verdicts.specs.declared.WrongBy.TheVariants.{Km, Nothing}
 use Rattle.verdicts.specs.declared.Verdict.{Verdict}
-use Rattle.verdicts.specs.declared.Judged.{Judged}
-use Rattle.verdicts.specs.declared.Judged.TheVariants.{With, Never}
-use Rattle.verdicts.specs.declared.JudgedAt.{JudgedAt}
-use Rattle.verdicts.specs.declared.JudgedAt.TheVariants as Kept
 use Rattle.heard.specs.declared.Heard.{Heard}
 use Rattle.heard.specs.declared.Position.{Position}
 use Rattle.receiver.specs.declared.Part.{Part}
@@ -50,24 +43,24 @@ judging_fits h l now aircraft = go (judging_of h l now aircraft) refl
     go Fits q = refl
     go Unjudged q = refl
 
-ended_fits : (m : Moved) (v : Judged) → verdict_fits v ≡ true → verdict_fits (ended_by m v) ≡ true
+ended_fits : (m : Moved) (v : Option Verdict) → verdict_fits v ≡ true → verdict_fits (ended_by m v) ≡ true
 ended_fits stayed v h = h
-ended_fits moved Never h = h
-ended_fits moved (With v) h = h
+ended_fits moved None h = h
+ended_fits moved (Some v) h = h
 
-goes_fits : (v : Judged) → verdict_fits v ≡ true → by_fits (goes_on v).wrong_by ≡ true
-goes_fits Never h = refl
-goes_fits (With v) h = by_bool v.moved (λ p. rw p) (λ p. rw p h)
+goes_fits : (v : Option Verdict) → verdict_fits v ≡ true → by_fits (goes_on v).wrong_by ≡ true
+goes_fits None h = refl
+goes_fits (Some v) h = by_bool v.moved (λ p. rw p) (λ p. rw p h)
 
-cond_fits : (b : Bool) (x y : WrongBy) → by_fits x ≡ true → by_fits y ≡ true → by_fits (cond b x y) ≡ true
+cond_fits : (b : Bool) (x y : Option ℕ) → by_fits x ≡ true → by_fits y ≡ true → by_fits (cond b x y) ≡ true
 cond_fits true x y p q = p
 cond_fits false x y p q = q
 
 once_fits : (v : Verdict) (j : Judgment) → by_fits v.wrong_by ≡ true → judgment_fits j ≡ true → by_fits (judged_once v j).wrong_by ≡ true
 unfolding wrongly otherwise
-once_fits v (Wrong d e) h k = cond_fits (leb 3 (up v.wrong_run) || is_held v.wrong_by) (Km d) Nothing k refl
-once_fits v Fits h k = cond_fits (leb 3 (up v.other_run)) Nothing v.wrong_by refl h
-once_fits v Unjudged h k = cond_fits (leb 3 (up v.other_run)) Nothing v.wrong_by refl h
+once_fits v (Wrong d e) h k = cond_fits (leb 3 (up v.wrong_run) || is_held v.wrong_by) (Some d) None k refl
+once_fits v Fits h k = cond_fits (leb 3 (up v.other_run)) None v.wrong_by refl h
+once_fits v Unjudged h k = cond_fits (leb 3 (up v.other_run)) None v.wrong_by refl h
 
 -- SITES AND CELLS
 pub empty_wide : length empty_cells ≡ width
@@ -85,20 +78,20 @@ was_refused : {A S : Type 0} (G : S → Type 0) {r : S} {n : ℕ} {b : A} → �
 was_refused G e = let z : ◌≡◌ {A = ℕ} 0 1 = cc in absurd (omega arith)
 
 module _ (h : Heard) (l : List ℕ) (n : length l ≡ width) (r : Body Heard) where
-  site_good : (s : Site) (old : Claimed) (m : Moved) → held s ≡ true → site_fits old ≡ true → claimed_site h l s old ≡ accept r m → Good r
-  site_good s Nowhere m i j e = was_accepted Good e (i, empty_wide)
-  site_good s (At old) m i j e =
+  site_good : (s : Site) (old : Option Site) (m : Moved) → held s ≡ true → site_fits old ≡ true → claimed_site h l s old ≡ accept r m → Good r
+  site_good s None m i j e = was_accepted Good e (i, empty_wide)
+  site_good s (Some old) m i j e =
       by_bool (same_place old s)
       (λ p. was_accepted Good (rw p at e) (j, n))
       (λ p. was_accepted Good (rw p at e) (i, empty_wide))
 
-  none_good : (old : Claimed) (m : Moved) → site_fits h.site ≡ true → claimed_none h l old ≡ accept r m → Good r
-  none_good Nowhere m k e = was_accepted Good e (k, n)
-  none_good (At old) m k e = was_accepted Good e (refl, empty_wide)
+  none_good : (old : Option Site) (m : Moved) → site_fits h.site ≡ true → claimed_none h l old ≡ accept r m → Good r
+  none_good None m k e = was_accepted Good e (k, n)
+  none_good (Some old) m k e = was_accepted Good e (refl, empty_wide)
 
-  claim_good : (c : Claimed) (m : Moved) → site_fits h.site ≡ true → claimed h l c ≡ accept r m → Good r
-  claim_good Nowhere m k e = none_good h.site m k e
-  claim_good (At s) m k e =
+  claim_good : (c : Option Site) (m : Moved) → site_fits h.site ≡ true → claimed h l c ≡ accept r m → Good r
+  claim_good None m k e = none_good h.site m k e
+  claim_good (Some s) m k e =
       by_bool (held s) (λ p. site_good s h.site m p k (rw p at e)) (λ p. was_refused Good (rw p at e))
 
   with_id_lem : (b : Bool) (id : ℕ) → (with_id b id h).site ≡ h.site
@@ -117,9 +110,9 @@ module _ (h : Heard) (l : List ℕ) (n : length l ≡ width) (r : Body Heard) wh
       let i = start_of (is_even id) + placed s.lat s.lon p.lat p.lon in
       length-set k i (added_word (get_or k i 0) (bucket_of p.feet) (aircraft_bit p.address)) ∙ emptied_wide (is_even id) (holds_id (held_id (is_even id) h) id)
 
-  claimed_good : (p : Position) (c : Claimed) (m : Unit {0}) → site_fits h.site ≡ true → on_claimed h l p c ≡ accept r m → Good r
-  claimed_good p Nowhere m k e = was_refused Good e
-  claimed_good p (At s) m k e =
+  claimed_good : (p : Position) (c : Option Site) (m : Unit {0}) → site_fits h.site ≡ true → on_claimed h l p c ≡ accept r m → Good r
+  claimed_good p None m k e = was_refused Good e
+  claimed_good p (Some s) m k e =
       let id = epoch_of p.at_ms in
       by_bool (not_older (held_id (is_even id) h) id)
       (λ q. was_accepted Good (rw q at e) (rw (with_id_lem (is_even id) id) k, counted_wide s p id))
@@ -133,7 +126,7 @@ module _ (h : Heard) (l : List ℕ) (n : length l ≡ width) (r : Body Heard) wh
 abbrev Sound : Body Part → Type 0
 Sound s = Fine siting.form s
 
-sound : (h : Heard) (v : Judged) (k : JudgedAt) (l : List ℕ) → site_fits h.site ≡ true → verdict_fits v ≡ true → length l ≡ width → Sound (record { part = record { heard = h; verdict = v; judged_ms = k }; cells = l })
+sound : (h : Heard) (v : Option Verdict) (k : Option ℕ) (l : List ℕ) → site_fits h.site ≡ true → verdict_fits v ≡ true → length l ≡ width → Sound (record { part = record { heard = h; verdict = v; judged_ms = k }; cells = l })
 sound h v k l p q n = record { sound_part = and_both (site_fits h.site) (verdict_fits v) p q; wide = n }
 
 module _ (s : Body Part) (fine : Sound s) where
@@ -143,7 +136,7 @@ module _ (s : Body Part) (fine : Sound s) where
   verdict_fits_lem : verdict_fits s.part.verdict ≡ true
   verdict_fits_lem = and_2 (site_fits s.part.heard.site) (verdict_fits s.part.verdict) fine.sound_part
 
-  claim_keeps : (c : Claimed) (r : Outcome (Body Heard) Moved) → claimed s.part.heard s.cells c ≡ r → (s' : Body Part) (o : Out) → claim_done s.part r ≡ accept s' o → Sound s'
+  claim_keeps : (c : Option Site) (r : Outcome (Body Heard) Moved) → claimed s.part.heard s.cells c ≡ r → (s' : Body Part) (o : Out) → claim_done s.part r ≡ accept s' o → Sound s'
   claim_keeps c (refuse n) q s' o e = was_refused Sound e
   claim_keeps c (accept b m) q s' o e =
       let g = claim_good s.part.heard s.cells fine.wide b c m site_fits_lem q in
@@ -159,11 +152,11 @@ module _ (s : Body Part) (fine : Sound s) where
   judging_keeps now j f s' o e =
       by_bool (too_soon s.part.judged_ms now)
       (λ p. was_refused Sound (rw p at e))
-      (λ p. was_accepted Sound (rw p at e) (sound s.part.heard (judged_next s.part.verdict j) (Kept.At now) s.cells site_fits_lem (once_fits (goes_on s.part.verdict) j (goes_fits s.part.verdict verdict_fits_lem) f) fine.wide))
+      (λ p. was_accepted Sound (rw p at e) (sound s.part.heard (judged_next s.part.verdict j) (Some now) s.cells site_fits_lem (once_fits (goes_on s.part.verdict) j (goes_fits s.part.verdict verdict_fits_lem) f) fine.wide))
 
-  check_keeps : (v : Judged) (s' : Body Part) (o : Out) → check_done s v ≡ accept s' o → Sound s'
-  check_keeps Never s' o e = was_refused Sound e
-  check_keeps (With v) s' o e = was_accepted Sound e fine
+  check_keeps : (v : Option Verdict) (s' : Body Part) (o : Out) → check_done s v ≡ accept s' o → Sound s'
+  check_keeps None s' o e = was_refused Sound e
+  check_keeps (Some v) s' o e = was_accepted Sound e fine
 
 act_keeps : (k : Key) (s : Body Part) (a : Act) (s' : Body Part) (o : Out) → row_act k s a ≡ accept s' o → Sound s → Sound s'
 act_keeps k s (claim c) s' o e f = claim_keeps s f c (claimed s.part.heard s.cells c) refl s' o e

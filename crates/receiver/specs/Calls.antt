@@ -1,17 +1,15 @@
 -- The seven calls of the siting watch (01, 'Seven calls, seven questions'; 02, Item 3): what each with a key does to its row's part and cells, and the
 -- calls on any lent watch. Definitions only. A refusal has the documents' number; an accepted call's answer is `said` with the key pushed out or none.
-use Rattle.std.specs.Prelude.{ℕ, cond, ◌&&◌, List}
+use Rattle.sites.specs.declared.Site.{Site}
+use Rattle.verdicts.specs.declared.Verdict.{Verdict}
+use Rattle.std.specs.Prelude.{ℕ, cond, ◌&&◌, List, Some, None, Option}
 use Rattle.table.specs.Machine.{Key, Kind, enters, uses, looks, leaves, Outcome, refuse, accept, Step}
 use Rattle.table.specs.Rows.{Watch}
 use Rattle.table.specs.Watch.{Body, Rowed, fresh_step, watch_step, drop_step}
-use Rattle.sites.specs.declared.Claimed.{Claimed}
 use Rattle.near_field.specs.declared.Judgment.{Judgment}
 use Rattle.judge.specs.Judging.{judge_of}
 use Rattle.heard.specs.declared.Heard.{Heard}
 use Rattle.heard.specs.declared.Position.{Position}
-use Rattle.verdicts.specs.declared.Judged.{Judged}
-use Rattle.verdicts.specs.declared.Judged.TheVariants.{With, Never}
-use Rattle.verdicts.specs.declared.JudgedAt.TheVariants as Kept
 use Rattle.verdicts.specs.declared.CheckState.{CheckState}
 use Rattle.receiver.specs.declared.Part.{Part}
 use Rattle.verdicts.specs.Verdict.{judged_next, too_soon, run_ended, says_verdict, verdict_fits}
@@ -19,7 +17,7 @@ use Rattle.heard.specs.Heard.{width, empty_cells, unheard, Moved, moved, stayed,
 
 -- the calls with a key, without it
 pub data Act : Type 0 where
-  claim : Claimed → Act
+  claim : Option Site → Act
   position : Position → Act
   judging : ℕ → ℕ → Act  -- now_ms, aircraft
   check : Act
@@ -44,10 +42,10 @@ kind take_out = leaves
 
 -- a row's part: site, generation, ids (`heard`), verdict or none, now_ms of its last accepted judging or none
 abbrev pub unmade_part : Part
-unmade_part = record { heard = unheard; verdict = Never; judged_ms = Kept.Never }
+unmade_part = record { heard = unheard; verdict = None; judged_ms = None }
 
 -- a move ends the verdict's run; it does not clear the clock
-abbrev pub ended_by : Moved → Judged → Judged
+abbrev pub ended_by : Moved → Option Verdict → Option Verdict
 ended_by moved v = run_ended v
 ended_by stayed v = v
 
@@ -64,16 +62,16 @@ judging_of h l now aircraft = judge_of h.site h.even h.odd l now aircraft
 
 -- (02, Item 3) The row keeps the now_ms of its last accepted judging.
 abbrev pub judged_part : Part → ℕ → Judgment → Part
-judged_part p now j = record { heard = p.heard; verdict = judged_next p.verdict j; judged_ms = Kept.At now }
+judged_part p now j = record { heard = p.heard; verdict = judged_next p.verdict j; judged_ms = Some now }
 
 -- Refused: 9 when too soon, asked after question 3.
 abbrev pub judging_done : Body Part → ℕ → Judgment → Outcome (Body Part) Out
 judging_done s now j = cond (too_soon s.part.judged_ms now) (refuse 9) (accept (record { part = judged_part s.part now j; cells = s.cells }) (judgment_is j))
 
 -- 7: (check) Was the row judged since it was made?
-abbrev pub check_done : Body Part → Judged → Outcome (Body Part) Out
-check_done s Never = refuse 7
-check_done s (With v) = accept s (says (says_verdict v))
+abbrev pub check_done : Body Part → Option Verdict → Outcome (Body Part) Out
+check_done s None = refuse 7
+check_done s (Some v) = accept s (says (says_verdict v))
 
 -- what a call does to its key's row; a take-out's row is freed (`kind`)
 abbrev pub row_act : Key → Body Part → Act → Outcome (Body Part) Out

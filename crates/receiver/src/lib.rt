@@ -3,12 +3,12 @@
 #![tactic(auto)]
 
 use heard::Heard;
-use verdicts::{Judged, JudgedAt};
+use verdicts::Verdict;
 
 // A row but for its key and links.
 #[derive(Clone, Copy)]
 pub struct Part {
     pub heard: Heard,
-    pub verdict: Judged,
-    pub judged_ms: JudgedAt,
+    pub verdict: Option<Verdict>,
+    pub judged_ms: Option<u64>,
 }

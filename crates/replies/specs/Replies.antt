@@ -1,15 +1,8 @@
--- Arguments and answers of the seven calls as numbers, since no enum crosses to C. Definitions only.
-use Rattle.std.specs.Prelude.{◌≡◌, ℕ, ℤ, cond, List, [], ◌∷◌, eqb, Float}
-use Rattle.std.proofs.Math.Option.{Option, none, some}
+-- The answers of the seven calls as numbers, since no enum crosses to C; of the arguments, what is given by a tag is sites/Sites.given. Definitions only.
+use Rattle.std.specs.Prelude.{◌≡◌, ℕ, List, [], ◌∷◌, Some, None, Option}
 use Rattle.table.specs.Machine as M
 use Rattle.table.specs.Machine.{Step, refused, said}
 use Rattle.table.specs.Rows.{Watch}
-use Rattle.cells.specs.declared.Height.{Height}
-use Rattle.cells.specs.declared.Height.TheVariants as Heights
-use Rattle.sites.specs.declared.Altitude.{Altitude}
-use Rattle.sites.specs.declared.Altitude.TheVariants as Altitudes
-use Rattle.sites.specs.declared.Claimed.{Claimed}
-use Rattle.sites.specs.declared.Claimed.TheVariants as Claims
 use Rattle.near_field.specs.declared.Judgment.{Judgment}
 use Rattle.near_field.specs.declared.Judgment.TheVariants as Judgments
 use Rattle.near_field.specs.declared.Evidence.{Evidence}
@@ -21,16 +14,6 @@ use Rattle.receiver.specs.Calls.{Out, generation_is, judgment_is, says, freed, d
 use Rattle.rows.specs.Read.{watch_is}
 use Rattle.flat.specs.Table.{rows_of, Left}
 use Rattle.packing.specs.Words.{key_words}
-
--- ARGUMENTS: a tag of 0 is none
-abbrev pub altitude_by : ℕ → ℤ → Altitude
-altitude_by tag m = cond (eqb tag 0) Altitudes.Unknown (Altitudes.Metres m)
-
-abbrev pub site_by : ℕ → Float → Float → Altitude → Claimed
-site_by tag lat lon alt = cond (eqb tag 0) Claims.Nowhere (Claims.At (record { lat = lat; lon = lon; alt_m = alt }))
-
-abbrev pub feet_by : ℕ → ℤ → Height
-feet_by tag f = cond (eqb tag 0) Heights.Unknown (Heights.Known f)
 
 -- ANSWERS: nine numbers. What it is (0 refused, 1 a generation, 2 a judgment, 3 a state, 4 the key freed, 5 accepted), its value, a distance, the
 -- evidence, whether a key was pushed out, and a key's four words; what an answer has not is 0.
@@ -57,8 +40,8 @@ state_words States.Fits = plain 3 1 0 0
 state_words (States.Wrong off) = plain 3 2 off 0
 
 abbrev pub generation_words : Option M.Key → ℕ → List ℕ
-generation_words none g = plain 1 g 0 0
-generation_words (some k) g = keyed 1 g 1 k
+generation_words None g = plain 1 g 0 0
+generation_words (Some k) g = keyed 1 g 1 k
 
 abbrev pub said_words : Option M.Key → Out → List ℕ
 said_words p (generation_is g) = generation_words p g

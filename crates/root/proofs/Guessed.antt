@@ -1,6 +1,7 @@
 -- A guess at the root, tested in whole numbers and set right by one. Assumes nothing.
-use Rattle.std.proofs.Common.{◌≡◌, ℕ, zero, suc, ◌+◌, ◌-◌, ◌*◌, ◌/◌, ◌^◌, ◌<◌, ◌≤◌, Bool, true, false, cond, not, T, ltb, leb, sym, ap, ◌∙◌, add-zero, mul-le-mul, arith, ltb→lt, leb→le, nltb→le}
+use Rattle.std.proofs.Common.{◌≡◌, ℕ, zero, suc, ◌+◌, ◌-◌, ◌*◌, ◌/◌, ◌^◌, ◌<◌, ◌≤◌, Bool, true, false, not, T, ltb, leb, sym, ap, ◌∙◌, add-zero, mul-le-mul, arith, ltb→lt, leb→le, nltb→le}
 use lib.Dec.{nleb→lt}
+use mir.Val.{bool_byte}
 use Rattle.root.specs.Root.{isqrt}
 use Rattle.root.proofs.Newton.{sq_next, sq_even, sq_sum, root_lt}
 use Rattle.root.proofs.Whole.{isqrt_is, isqrt_unique, not_above}
@@ -77,14 +78,14 @@ module _ (p q s t left w : ℕ) (digits : q ≡ s * 2 ^ 26 + t) (large : 2 ^ 26 
   level h k = nearest_is p q (omega (arith, rest, digits)) (omega (arith, rest, digits))
 
   -- what the program makes of the guess
-  pub set_right : let a = w * 2 ^ 26 + t * 2 in let b = t * t + q in q + cond (ltb (b + q * 2) a) 1 0 - cond (leb a b) 1 0 ≡ nearest p
+  pub set_right : let a = w * 2 ^ 26 + t * 2 in let b = t * t + q in q + bool_byte (ltb (b + q * 2) a) - bool_byte (leb a b) ≡ nearest p
   set_right =
       let a = w * 2 ^ 26 + t * 2 in
       let b = t * t + q in
       go (ltb (b + q * 2) a) (leb a b) (ltb→lt (b + q * 2) a) (λ n. nltb→le (b + q * 2) a n) (leb→le a b) (λ n. nleb→lt a b n)
     where
       go : (u l : Bool) → (T u → t * t + q + q * 2 < w * 2 ^ 26 + t * 2) → (T (not u) → w * 2 ^ 26 + t * 2 ≤ t * t + q + q * 2)
-          → (T l → w * 2 ^ 26 + t * 2 ≤ t * t + q) → (T (not l) → t * t + q < w * 2 ^ 26 + t * 2) → q + cond u 1 0 - cond l 1 0 ≡ nearest p
+          → (T l → w * 2 ^ 26 + t * 2 ≤ t * t + q) → (T (not l) → t * t + q < w * 2 ^ 26 + t * 2) → q + bool_byte u - bool_byte l ≡ nearest p
       go true true f g h k = absurd (both (t * t + q) (w * 2 ^ 26 + t * 2) q (f tt) (h tt))
         where
           both : (b a q : ℕ) → b + q * 2 < a → a ≤ b → ⊥

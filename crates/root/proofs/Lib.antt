@@ -7,6 +7,6 @@ pub mod Whole
 pub mod Guessed
 pub mod Units
 pub mod Pattern
-pub mod Kept
+pub mod Shifted
 pub mod Value
 pub mod Nearest

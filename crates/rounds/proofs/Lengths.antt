@@ -96,8 +96,6 @@ turn_length w next k room =
 
 pub line_length : (w : Watch Part) (l : Line) → length (line_text w l) ≤ 4300
 line_length w (line.Turn next k room) = turn_length w next k room
-line_length w line.Nothing = omega arith
-line_length w (line.Wrong f) = omega arith
 line_length w (line.Watch c) = omega arith
 line_length w (line.Call c) = omega arith
 line_length w line.Digest = omega arith
@@ -106,7 +104,4 @@ line_length w (line.Same a b c d) = omega arith
 line_length w (line.Horizon a b) = omega arith
 line_length w (line.Bucket f) = omega arith
 line_length w (line.Bit a) = omega arith
-line_length w (line.Lend c n) = omega arith
-line_length w (line.Row i p a b) = omega arith
-line_length w (line.Cell i v) = omega arith
-line_length w (line.Ends a b c) = omega arith
+line_length w (line.Change m) = omega arith

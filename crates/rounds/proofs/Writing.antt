@@ -4,15 +4,15 @@ use Prim.Native.Nat.{ℕ, zero, suc, ◌+◌, ◌*◌, ◌≤◌}
 use native.Mathlib.Numerals.{add-one}
 use native.Mathlib.Omega.{arith}
 use lib.Dec.{ltb}
-use mathlib.Core.List.{List, [], ◌∷◌, append_assoc}
-use lib.ListN.{length, get_or, take, drop, replicate}
-use lib.Seq.{get_or-drop, length-take-le}
+use mathlib.Core.List.{List, ◌∷◌}
+use lib.ListN.{length, take, drop, replicate}
+use lib.Seq.{length-take-le}
 use borrow.Author.Tests.{ltb-true}
 use Rattle.fields.specs.Text.{spell}
 use Rattle.table.specs.Rows.{Watch}
 use Rattle.table.proofs.Tests.{by_bool}
 use Rattle.receiver.specs.declared.Part.{Part}
-use Rattle.print.specs.Print.{digits, decimal_text, put_in, put_end}
+use Rattle.print.specs.Print.{decimal_text}
 use Rattle.flat.specs.Words.{words_of_row}
 use Rattle.flat.proofs.Rows.{starts_at}
 use Rattle.rows.specs.Read.{form, watch_is}
@@ -22,11 +22,10 @@ use Rattle.turns.specs.declared.Turned.TheVariants.{Refused, Named}
 use Rattle.turns.specs.Turn.{turn_on}
 use Rattle.lending.specs.Lendings.{Within, lent_to}
 use Rattle.lending.specs.declared.Size.{Size}
-use Rattle.grammar.specs.declared.Line.{Line}
 use Rattle.answers.specs.Words.{◌then◌}
-use Rattle.answers.specs.Answers.{bytes_text, key_text, Wrote}
-use Rattle.answers.proofs.Writing.{wrote_put, wrote_none, wrote_then, wrote_is, bytes_none, bytes_on}
-use Rattle.rounds.specs.Rounds.{keys_text, turned_text, tick_text, served, turn_text, line_text}
+use Rattle.answers.specs.Answers.{key_text, Wrote}
+use Rattle.answers.proofs.Writing.{wrote_none, wrote_then, wrote_both, wrote_is}
+use Rattle.rounds.specs.Rounds.{keys_text, turned_text, tick_text, served, turn_text}
 
 -- THE ROWS that are lent
 pub rows_front : (z : Size) (xs ys : List ℕ) (a : ℕ) → Within z xs ys → a ≡ words_of_row * z.rows → length (take a xs) ≡ a
@@ -39,50 +38,27 @@ pub ticked : (z : Size) (xs ys ws list list₁ : List ℕ) (a next k : ℕ) (t :
 ticked z xs ys ws list list₁ a next k t ea e =
     e ∙ ap (λ (i : ℕ). turn_on form (watch_is (rows_of (take i xs)) (take z.cells ys) ws) next k list) (ea ∙ sym (starts_at z.rows))
 
--- A KEY, BYTE BY BYTE
-pub key_on : (out out1 out2 list : List ℕ) (n m r i from j b : ℕ) → from ≡ 32 * i → b ≡ get_or list (from + j) 0 → Wrote out n (bytes_text (drop (32 * i) list) j) out1 m → Wrote out1 m (digits 16 2 b) out2 r → Wrote out n (bytes_text (drop (32 * i) list) (j + 1)) out2 r
-key_on out out1 out2 list n m r i from j b ef eb w v =
-    bytes_on out (drop (32 * i) list) out1 n m j out2 r w
-    (wrote_is out1 (digits 16 2 b) (digits 16 2 (get_or (drop (32 * i) list) j 0)) out2 m r (ap (digits 16 2) (eb ∙ ap (λ (a : ℕ). get_or list (a + j) 0) ef ∙ sym (get_or-drop (32 * i) list j 0))) v)
-
 -- KEYS
 pub keys_none : (out list : List ℕ) (n : ℕ) → Wrote out n (keys_text 0 list) out n
 unfolding keys_text
 keys_none out list n = wrote_none out n
 
-pub keys_on : (out out1 out2 out3 list : List ℕ) (n m p r i : ℕ) → Wrote out n (keys_text i list) out1 m → p ≡ put_end out1 m (spell " ") → out2 ≡ put_in out1 m (spell " ") → Wrote out2 p (key_text (drop (32 * i) list)) out3 r → Wrote out n (keys_text (i + 1) list) out3 r
+pub keys_on : (out out1 out2 out3 list : List ℕ) (n m p r i : ℕ) → Wrote out n (keys_text i list) out1 m → Wrote out1 m (spell " ") out2 p → Wrote out2 p (key_text (drop (32 * i) list)) out3 r → Wrote out n (keys_text (i + 1) list) out3 r
 unfolding keys_text
-keys_on out out1 out2 out3 list n m p r i w e f v =
+keys_on out out1 out2 out3 list n m p r i w v u =
     rw (add-one i)
-    (wrote_then out (keys_text i list) (spell " " then key_text (drop (32 * i) list)) out1 out3 n m r w
-    (wrote_then out1 (spell " ") (key_text (drop (32 * i) list)) out2 out3 m p r (wrote_put out1 (spell " ") out2 m p e f) v))
-
-pub key_none : (out list : List ℕ) (n i : ℕ) → Wrote out n (bytes_text (drop (32 * i) list) 0) out n
-key_none out list n i = bytes_none out (drop (32 * i) list) [] n 0
-
--- A WORD AND A NUMBER
-pub number_put : (out out1 out2 word : List ℕ) (n m r v : ℕ) → m ≡ put_end out n word → out1 ≡ put_in out n word → r ≡ put_end out1 m (decimal_text v) → out2 ≡ put_in out1 m (decimal_text v) → Wrote out n (word then decimal_text v) out2 r
-number_put out out1 out2 word n m r v a b c d = wrote_then out word (decimal_text v) out1 out2 n m r (wrote_put out word out1 n m a b) (wrote_put out1 (decimal_text v) out2 m r c d)
+    (wrote_then out (keys_text i list) (spell " " then key_text (drop (32 * i) list)) out1 out3 n m r w (wrote_then out1 (spell " ") (key_text (drop (32 * i) list)) out2 out3 m p r v u))
 
 -- THE ANSWERS
-pub refused_put : (out out1 out2 list : List ℕ) (n m r q v : ℕ) → v ≡ q → Wrote out n (spell "no " then decimal_text v) out1 m → r ≡ put_end out1 m (spell "\n") → out2 ≡ put_in out1 m (spell "\n") → Wrote out n (turned_text (Refused q) list) out2 r
-refused_put out out1 out2 list n m r q v e w a b =
-    let number = decimal_text v in
-    wrote_is out ((spell "no " then number) then spell "\n") (turned_text (Refused q) list) out2 n r (append_assoc (spell "no ") number (spell "\n") ∙ ap (λ (x : ℕ). spell "no " then decimal_text x then spell "\n") e)
-    (wrote_then out (spell "no " then number) (spell "\n") out1 out2 n m r w (wrote_put out1 (spell "\n") out2 m r a b))
+pub refused_put : (out out1 out2 list : List ℕ) (n m r q : ℕ) → Wrote out n (spell "no " then decimal_text q) out1 m → Wrote out1 m (spell "\n") out2 r → Wrote out n (turned_text (Refused q) list) out2 r
+refused_put out out1 out2 list n m r q w v = wrote_both out (spell "no ") (decimal_text q) (spell "\n") out1 out2 n m r w v
 
-pub named_put : (out out1 out2 out3 out4 list : List ℕ) (n m p q r count next c d : ℕ) → c ≡ count → d ≡ next → Wrote out n (spell "ok " then decimal_text c) out1 m → Wrote out1 m (spell " " then decimal_text d) out2 p → Wrote out2 p (keys_text count list) out3 q → r ≡ put_end out3 q (spell "\n") → out4 ≡ put_in out3 q (spell "\n")
+pub named_put : (out out1 out2 out3 out4 list : List ℕ) (n m p q r count next : ℕ) → Wrote out n (spell "ok " then decimal_text count) out1 m → Wrote out1 m (spell " " then decimal_text next) out2 p → Wrote out2 p (keys_text count list) out3 q → Wrote out3 q (spell "\n") out4 r
     → Wrote out n (turned_text (Named count next) list) out4 r
-named_put out out1 out2 out3 out4 list n m p q r count next c d ec ed w1 w2 w3 a b =
-    let x = spell "ok " then decimal_text c in
-    let y = spell " " then decimal_text d in
-    let z = keys_text count list then spell "\n" in
-    wrote_is out (x then (y then z)) (turned_text (Named count next) list) out4 n r
-    (append_assoc (spell "ok ") (decimal_text c) (y then z) ∙ ap (λ (t : List ℕ). spell "ok " then decimal_text c then t) (append_assoc (spell " ") (decimal_text d) z)
-    ∙ ap (λ (v : ℕ). spell "ok " then decimal_text v then spell " " then decimal_text d then z) ec ∙ ap (λ (v : ℕ). spell "ok " then decimal_text count then spell " " then decimal_text v then z) ed)
-    (wrote_then out x (y then z) out1 out4 n m r w1
-    (wrote_then out1 y z out2 out4 m p r w2
-    (wrote_then out2 (keys_text count list) (spell "\n") out3 out4 p q r w3 (wrote_put out3 (spell "\n") out4 q r a b))))
+named_put out out1 out2 out3 out4 list n m p q r count next w1 w2 w3 w4 =
+    let keys = keys_text count list in
+    wrote_both out (spell "ok ") (decimal_text count) (spell " " then decimal_text next then keys then spell "\n") out1 out4 n m r w1
+    (wrote_both out1 (spell " ") (decimal_text next) (keys then spell "\n") out2 out4 m p r w2 (wrote_then out2 keys (spell "\n") out3 out4 p q r w3 w4))
 
 -- THE LINE
 pub served_few : (room : ℕ) → served room ≤ 64
@@ -102,6 +78,3 @@ module _ (room m : ℕ) (e : m ≡ 32 * served room) where
   turn_put out out1 list₁ n r t w next k s v =
       wrote_is out (turned_text t list₁) (tick_text (turn_on form w next k (replicate (32 * served room) 0))) out1 n r
       (ap tick_text (s ∙ ap (turn_on form w next k) (zeros m 2048 list_fits ∙ ap (λ (x : ℕ). replicate x 0) e))) v
-
-pub line_none : (out : List ℕ) (n : ℕ) (w : Watch Part) (l m : Line) → l ≡ m → line_text w m ≡ [] → Wrote out n (line_text w l) out n
-line_none out n w l m e f = rw (e, f) (wrote_none out n)

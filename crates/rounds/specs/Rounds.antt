@@ -36,8 +36,6 @@ turn_text w next k room = tick_text (turn_on form w next k (replicate (32 * serv
 -- of all lines a tick alone is answered here
 abbrev pub line_text : Watch Part → Line → List ℕ
 line_text w (line.Turn next k room) = turn_text w next k room
-line_text w line.Nothing = []
-line_text w (line.Wrong f) = []
 line_text w (line.Watch c) = []
 line_text w (line.Call c) = []
 line_text w line.Digest = []
@@ -46,7 +44,4 @@ line_text w (line.Same a b c d) = []
 line_text w (line.Horizon a b) = []
 line_text w (line.Bucket f) = []
 line_text w (line.Bit a) = []
-line_text w (line.Lend c n) = []
-line_text w (line.Row i p a b) = []
-line_text w (line.Cell i v) = []
-line_text w (line.Ends a b c) = []
+line_text w (line.Change m) = []

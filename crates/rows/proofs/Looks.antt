@@ -2,11 +2,11 @@
 --     walked           a scan comes to what the walk along the chain finds          found       one that came through has the first row with the key
 --     sound_all, unseen    it stays sound where all rows are, and a row that fails is none that a sound scan saw
 --     looks            what is made of both scans is `looked_in`
+use Rattle.std.specs.Prelude.{Option, None, Some}
 use mathlib.Core.Path.{◌≡◌, refl, sym, ◌∙◌, ap, ap₂, subst}
 use Prim.Native.Nat.{ℕ, zero, suc, ◌<◌, ◌≤◌, ◌-◌, ◌+◌, ◌*◌}
 use native.Mathlib.Omega.{arith}
 use mathlib.Core.Bool.{Bool, true, false, cond, not, ◌&&◌, ◌||◌}
-use mathlib.Core.Option.{Option, none, some}
 use mathlib.Core.List.{List, [], ◌∷◌, map}
 use lib.Dec.{eqb, ltb, leb}
 use lib.ListN.{length, get_or}
@@ -44,7 +44,7 @@ abbrev ended_by : ℕ → Cursor → Walked
 ended_by n s = cond (came_through s) (ended (n - s.left) s.prev) broken
 
 abbrev option_of : ℕ → Option ℕ
-option_of v = cond (eqb v NONE) none (some v)
+option_of v = cond (eqb v NONE) None (Some v)
 
 nz : (j : ℕ) → eqb (suc j) 0 ≡ false
 nz j = eqb_no (suc j) 0 (λ e. omega (arith, e))
@@ -111,7 +111,7 @@ module _ (xs : List Row) (small : length xs ≤ NONE) where
 
   -- THE SEARCH
   found : (k at p : ℕ) (b s : Bool) (v : ℕ) (key : List ℕ) → came_through (scan_for k xs (state at p k b true s v key)) ≡ true
-      → option_of (scan_for k xs (state at p k b true s v key)).found ≡ cond (eqb v NONE) (find_row unmade_part rows k key at) (some v)
+      → option_of (scan_for k xs (state at p k b true s v key)).found ≡ cond (eqb v NONE) (find_row unmade_part rows k key at) (Some v)
   unfolding scan_for
   found zero at p b s v key c = refl
   found (suc j) at p b s v key c =
@@ -124,7 +124,7 @@ module _ (xs : List Row) (small : length xs ≤ NONE) where
       (λ t. ap (λ (x : Cursor). option_of x.found) (stays j at p b s v key t)
       ∙ sym (rw (subst (λ (x : Cursor). came_through x ≡ true) (stays j at p b s v key t) c)))
     where
-      onwards : (o : Option ℕ) (t : Bool) → eqb at NONE ≡ false → cond (eqb (first_found v at t) NONE) o (some (first_found v at t)) ≡ cond (eqb v NONE) (cond t (some at) o) (some v)
+      onwards : (o : Option ℕ) (t : Bool) → eqb at NONE ≡ false → cond (eqb (first_found v at t) NONE) o (Some (first_found v at t)) ≡ cond (eqb v NONE) (cond t (Some at) o) (Some v)
       onwards o true e = by_bool (eqb v NONE) (λ y. rw (y, e)) (λ y. rw (y, y))
       onwards o false e = by_bool (eqb v NONE) (λ y. rw (y, eqb_yes NONE NONE refl)) (λ y. rw (y, y))
 

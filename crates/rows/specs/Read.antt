@@ -1,6 +1,5 @@
 -- The lent rows, cells and ends, read as the watch of 01, 'Seven calls, seven questions'; and what a look at them tells. Definitions only.
-use Rattle.std.specs.Prelude.{◌≡◌, ℕ, Bool, cond, List, map, length, get_or}
-use Rattle.std.proofs.Math.Option.{Option, none, some}
+use Rattle.std.specs.Prelude.{◌≡◌, ℕ, Bool, cond, List, map, length, get_or, Option, None, Some}
 use Rattle.table.specs.Machine as M
 use Rattle.table.specs.Rows as T
 use Rattle.table.specs.Rows.{Watch, Form}
@@ -39,8 +38,8 @@ watch_is xs ys ws = record { rows = map row_is xs; cells = ys; ends = ends_is ws
 
 -- QUESTIONS 1, 2 AND 3 IN ONE: the number of the first no, or the row
 abbrev pub found_is : Option ℕ → Look
-found_is none = L.No 3
-found_is (some i) = L.At i
+found_is None = L.No 3
+found_is (Some i) = L.At i
 
 abbrev pub looked_in : Watch Part → M.Key → Look
 looked_in w k = cond (question1 form w) (cond (question2 form w) (found_is (find_row unmade_part w.rows (length w.rows) k w.ends.head)) (L.No 2)) (L.No 1)

@@ -10,9 +10,8 @@ ghost use Rattle.rows.specs.Search.{sizes_of, step_of};
 use heard::Heard;
 use receiver::Part;
 use scans::{Cursor, Ends, Key, back_fits, both, first_found, is_none, no_row, same_key};
-use sites::Claimed;
-use verdicts::{Judged, JudgedAt};
-use view::EpochId;
+use sites::Site;
+use verdicts::Verdict;
 
 // Links are row numbers, or none (the largest u32): the rows before and after in the used chain; a free row's `next` is the free chain's.
 #[derive(Clone, Copy)]
@@ -28,13 +27,13 @@ impl Row {
         key: [0u8; 32],
         part: Part {
             heard: Heard {
-                site: Claimed::Nowhere,
+                site: None,
                 generation: 0,
-                even: EpochId::Nothing,
-                odd: EpochId::Nothing,
+                even: None,
+                odd: None,
             },
-            verdict: Judged::Never,
-            judged_ms: JudgedAt::Never,
+            verdict: None,
+            judged_ms: None,
         },
         prev: 4294967295,
         next: 4294967295,

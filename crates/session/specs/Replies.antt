@@ -1,11 +1,10 @@
 -- What a line is answered, as a value. Definitions only.
-use Rattle.std.specs.Prelude.{ℕ, ◌&&◌, cond, Float}
+use Rattle.std.specs.Prelude.{ℕ, ◌&&◌, cond, Float, None}
 use Rattle.std.specs.Int.Count.{count_trailing_zeros}
 use Rattle.cells.specs.Cells.{bucket_of, aircraft_bit}
 use Rattle.floats.specs.Horizon.{horizon}
 use Rattle.sites.specs.Sites.{held, same_place, placing}
 use Rattle.sites.specs.declared.Site.{Site}
-use Rattle.sites.specs.declared.Altitude.TheVariants.{Unknown}
 use Rattle.grammar.specs.declared.Line.{Line}
 use Rattle.grammar.specs.declared.Line.TheVariants as line
 use Rattle.answers.specs.declared.Reply.{Reply}
@@ -13,7 +12,7 @@ use Rattle.answers.specs.declared.Reply.TheVariants as reply
 
 -- same LAT1 LON1 LAT2 LON2: degrees that get a no to question 4 are refused
 abbrev pub site_of : Float → Float → Site
-site_of a b = record { lat = a; lon = b; alt_m = Unknown }
+site_of a b = record { lat = a; lon = b; alt_m = None }
 
 unfoldable pub same_of : Site → Site → Reply
 same_of a b = cond (held a && held b) (reply.Same (same_place a b)) (reply.No 4)
@@ -24,8 +23,6 @@ bit_of address = count_trailing_zeros 16 (aircraft_bit address)
 
 -- a line of the watch gets no answer here, nor does a tick (crate `rounds` has it)
 abbrev pub reply_of : Line → Reply
-reply_of line.Nothing = reply.Nothing
-reply_of (line.Wrong f) = reply.Wrong f
 reply_of (line.Place a b c d) = reply.Place (placing a b c d)
 reply_of (line.Same a b c d) = same_of (site_of a b) (site_of c d)
 reply_of (line.Horizon a b) = reply.Horizon (horizon a b)
@@ -35,7 +32,4 @@ reply_of (line.Watch c) = reply.Nothing
 reply_of (line.Call c) = reply.Nothing
 reply_of (line.Turn n k m) = reply.Nothing
 reply_of line.Digest = reply.Nothing
-reply_of (line.Lend c n) = reply.Nothing
-reply_of (line.Row i p a b) = reply.Nothing
-reply_of (line.Cell i w) = reply.Nothing
-reply_of (line.Ends a b c) = reply.Nothing
+reply_of (line.Change m) = reply.Nothing

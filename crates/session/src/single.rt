@@ -4,7 +4,7 @@ ghost use Rattle.session.specs.Replies.{site_of, same_of, bit_of, reply_of};
 
 use answers::Reply;
 use grammar::Line;
-use sites::{Altitude, Site};
+use sites::Site;
 
 fn site(lat: f64, lon: f64) -> Site
     ensures { result ≡ site_of lat lon }
@@ -12,20 +12,19 @@ fn site(lat: f64, lon: f64) -> Site
     Site {
         lat,
         lon,
-        alt_m: Altitude::Unknown,
+        alt_m: None,
     }
 }
 
+#[tactic(auto, unfolding(crate::specs::Replies::same_of))]
 fn same(a: Site, b: Site) -> Reply
     ensures { result ≡ same_of a b }
 {
-    if sites::in_degrees(a) {
-        if sites::in_degrees(b) {
-            return Reply::Same(sites::same_place(a, b));
-        }
-        return Reply::No(4);
+    if sites::in_degrees(a) && sites::in_degrees(b) {
+        Reply::Same(sites::same_place(a, b))
+    } else {
+        Reply::No(4)
     }
-    Reply::No(4)
 }
 
 // The number of an aircraft's bit.
@@ -41,8 +40,6 @@ pub fn answer(line: Line) -> Reply
     ensures { result ≡ reply_of line }
 {
     match line {
-        Line::Nothing => Reply::Nothing,
-        Line::Wrong(fault) => Reply::Wrong(fault),
         Line::Place {
             lat1,
             lon1,
@@ -58,26 +55,8 @@ pub fn answer(line: Line) -> Reply
         Line::Horizon { a, b } => Reply::Horizon(floats::horizon::horizon_km(a, b)),
         Line::Bucket(feet) => Reply::Bucket(cells::bucket(feet)),
         Line::Bit { address } => Reply::Bit(bit(address)),
-        Line::Watch { rows: _ } => Reply::Nothing,
-        Line::Call(_) => Reply::Nothing,
-        Line::Turn {
-            next: _,
-            k: _,
-            room: _,
-        } => Reply::Nothing,
-        Line::Digest => Reply::Nothing,
-        Line::Lend { rows: _, cells: _ } => Reply::Nothing,
-        Line::Row {
-            at: _,
-            part: _,
-            prev: _,
-            next: _,
-        } => Reply::Nothing,
-        Line::Cell { at: _, word: _ } => Reply::Nothing,
-        Line::Ends {
-            first: _,
-            last: _,
-            free: _,
-        } => Reply::Nothing,
+        Line::Watch { .. } | Line::Call(_) | Line::Turn { .. } | Line::Digest | Line::Change(_) => {
+            Reply::Nothing
+        }
     }
 }

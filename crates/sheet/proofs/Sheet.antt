@@ -1,9 +1,9 @@
 -- 01, 'Proved sheet': each line as theorems about the definitions that the contracts cite, in its order.
 -- Assumes nothing.
+use Rattle.std.specs.Prelude.{Some, None}
 use mathlib.Core.Path.{◌≡◌, refl}
 use mathlib.Core.Bool.{true, false}
 use mathlib.Core.List.{[], ◌∷◌}
-use mathlib.Core.Option.{none, some}
 use Prim.Native.Nat.{ℕ, ◌^◌, ◌<◌}
 use lib.IntN.{pos, negsuc}
 use lib.Ieee.{binary64, round, mul}
@@ -17,10 +17,7 @@ use Rattle.floats.specs.Horizon.{horizon, four_twelve}
 use Rattle.measures.specs.Steps.{off_of}
 use Rattle.floats.proofs.Sheet as floats
 use Rattle.cells.specs.Cells.{bucket_of, bit_number}
-use Rattle.cells.specs.declared.Height.TheVariants.{Known, Unknown}
-use Rattle.view.specs.declared.EpochId.TheVariants.{Id, Nothing}
 use Rattle.sites.specs.declared.Site.{Site}
-use Rattle.sites.specs.declared.Claimed.TheVariants.{At}
 use Rattle.near_field.specs.declared.Judgment.TheVariants.{Unjudged, Wrong}
 use Rattle.near_field.specs.declared.Evidence.TheVariants.{NothingNear}
 use Rattle.judge.specs.Judging.{judge_of}
@@ -45,7 +42,7 @@ pub p1_zero : off_of plus_zero ≡ 5
 p1_zero = floats.p1_zero
 
 -- ---- P2: 'feet −1, 499, 500, 127,000, none: 0, 0, 1, 254, 255.' `negsuc n` is −(n + 1).
-pub p2 : (bucket_of (Known (negsuc 0)) ≡ 0) × (bucket_of (Known (pos 499)) ≡ 0) × (bucket_of (Known (pos 500)) ≡ 1) × (bucket_of (Known (pos 127000)) ≡ 254) × (bucket_of Unknown ≡ 255)
+pub p2 : (bucket_of (Some (negsuc 0)) ≡ 0) × (bucket_of (Some (pos 499)) ≡ 0) × (bucket_of (Some (pos 500)) ≡ 1) × (bucket_of (Some (pos 127000)) ≡ 254) × (bucket_of None ≡ 255)
 p2 = (refl, refl, refl, refl, refl)
 
 -- ---- P3: 'address 0, 1, 2: bits 0, 9, 3.'
@@ -86,7 +83,7 @@ pub p6_held : held (W 5 ∷ O ∷ O ∷ W 5 ∷ W 5 ∷ W 5 ∷ []) ≡ true
 p6_held = refl
 
 -- ---- P7: 'at_ms 0, then 86,400,000, then 43,199,999: the last gets 6.' After a claim of a site, on a card; 43,200,000 is accepted, since its half holds no id.
-pub p7 : card_answers a none (site ∷ at 0 ∷ at 86400000 ∷ at 43199999 ∷ at 43200000 ∷ []) ≡ (said none (generation_is 1) ∷ said none done ∷ said none done ∷ refused 6 ∷ said none done ∷ [])
+pub p7 : card_answers a None (site ∷ at 0 ∷ at 86400000 ∷ at 43199999 ∷ at 43200000 ∷ []) ≡ (said None (generation_is 1) ∷ said None done ∷ said None done ∷ refused 6 ∷ said None done ∷ [])
 p7 = lists.p7
 
 -- ---- P8: '`horizon_km`(−5, 4) is twice the float 4.12.'
@@ -95,23 +92,23 @@ p8 = floats.p8
 
 -- ---- P9: 'C = 2: claim a (with a site), claim b, position a, claim c pushes out b.' Then b's check gets 3, and a's 7.
 pub p9 : answers_of (told 2 (by a site ∷ by b site ∷ by a (at 0) ∷ by c site ∷ by b check ∷ by a check ∷ []))
-    ≡ (said none (generation_is 1) ∷ said none (generation_is 1) ∷ said none done ∷ said (some b) (generation_is 1) ∷ refused 3 ∷ refused 7 ∷ [])
+    ≡ (said None (generation_is 1) ∷ said None (generation_is 1) ∷ said None done ∷ said (Some b) (generation_is 1) ∷ refused 3 ∷ refused 7 ∷ [])
 p9 = lists.p9
 
 -- ---- P10: '60 positions, no altitude, bin 0 only, 15 aircraft: Wrong 125, NothingNear; 59, or 14 aircraft: Unjudged.'
 -- For every site and any aircraft bits; `row_p10 n bits` has n positions without altitude in far bin 0 of the even half, whose id is 0, and now_ms is 0.
-pub p10 : (site : Site) (bits : ℕ) → bits < 2 ^ 16 → judge_of (At site) (Id 0) Nothing (row_p10 60 bits) 0 15 ≡ Wrong 125 NothingNear
+pub p10 : (site : Site) (bits : ℕ) → bits < 2 ^ 16 → judge_of (Some site) (Some 0) None (row_p10 60 bits) 0 15 ≡ Wrong 125 NothingNear
 p10 = cases.p10
 
-pub p10_59 : (site : Site) (bits : ℕ) → bits < 2 ^ 16 → judge_of (At site) (Id 0) Nothing (row_p10 59 bits) 0 15 ≡ Unjudged
+pub p10_59 : (site : Site) (bits : ℕ) → bits < 2 ^ 16 → judge_of (Some site) (Some 0) None (row_p10 59 bits) 0 15 ≡ Unjudged
 p10_59 = cases.p10_59
 
-pub p10_14 : (site : Site) (bits : ℕ) → judge_of (At site) (Id 0) Nothing (row_p10 60 bits) 0 14 ≡ Unjudged
+pub p10_14 : (site : Site) (bits : ℕ) → judge_of (Some site) (Some 0) None (row_p10 60 bits) 0 14 ≡ Unjudged
 p10_14 = cases.p10_14
 
 -- ---- 01, 'Plausible errors': '15 aircraft, no altitudes, 255 positions in cell (e, n) = (1,1), one in (1,3), one in bin 0'; 02, Item 2: 'The case in 01 under
 -- plausible errors then gives 125.' The two cells are skipped.
-pub nearest_skipped : (site : Site) (bits : ℕ) → bits < 2 ^ 16 → judge_of (At site) (Id 0) Nothing (row_near bits) 0 15 ≡ Wrong 125 NothingNear
+pub nearest_skipped : (site : Site) (bits : ℕ) → bits < 2 ^ 16 → judge_of (Some site) (Some 0) None (row_near bits) 0 15 ≡ Wrong 125 NothingNear
 nearest_skipped = cases.nearest_skipped
 
 -- ---- Not of 01's sheet: at exactly 45 degrees sine and cosine have each their own series, and differ.

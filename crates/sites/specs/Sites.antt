@@ -1,10 +1,8 @@
 -- 01, 'Claims' and 'Against the Rust, and its unportable shapes': sites in degrees. What is placed and compared are their ticks.
-use Rattle.std.specs.Prelude.{ℕ, Bool, ◌&&◌, cond, ℤ, pos, Float}
+use Rattle.std.specs.Prelude.{ℕ, Bool, ◌&&◌, cond, eqb, ℤ, pos, Float, Some, None, Option}
 use Rattle.angles.specs.Place as ticks
 use Rattle.measures.specs.Degrees.{in_degrees, tick_of}
 use Rattle.floats.specs.Horizon.{antenna_of}
-use Rattle.sites.specs.declared.Altitude.{Altitude}
-use Rattle.sites.specs.declared.Altitude.TheVariants.{Metres, Unknown}
 use Rattle.sites.specs.declared.Site.{Site}
 
 -- Seven calls, question 4, of a site: 'Are both degrees finite, lat −90 to 90, lon −180 to 180?'
@@ -16,9 +14,9 @@ unfoldable pub same_place : Site → Site → Bool
 same_place a b = ticks.same_place (tick_of a.lat) (tick_of a.lon) (tick_of b.lat) (tick_of b.lon)
 
 -- A judging, 2: 'a = max(alt or 0, 0) + 100'
-abbrev pub alt_or0 : Altitude → ℤ
-alt_or0 (Metres m) = m
-alt_or0 Unknown = pos 0
+abbrev pub alt_or0 : Option ℤ → ℤ
+alt_or0 (Some m) = m
+alt_or0 None = pos 0
 
 unfoldable pub antenna : Site → Float
 antenna s = antenna_of (alt_or0 s.alt_m)
@@ -30,3 +28,7 @@ placed site_lat site_lon lat lon = ticks.place (tick_of site_lat) (tick_of site_
 -- '.. and 65,535 for a "no" to question 4 on any of its four degrees'
 unfoldable pub placing : Float → Float → Float → Float → ℕ
 placing site_lat site_lon lat lon = cond (in_degrees site_lat site_lon && in_degrees lat lon) (placed site_lat site_lon lat lon) 65535
+
+-- what C hands over as a tag and a value: none where the tag is 0
+abbrev pub given : {A : Type 0} → ℕ → A → Option A
+given tag x = cond (eqb tag 0) None (Some x)

@@ -9,25 +9,11 @@ use angles::site;
 use floats::horizon;
 use measures::degrees;
 
-// An altitude in metres, or none.
-#[derive(Clone, Copy)]
-pub enum Altitude {
-    Metres(i32),
-    Unknown,
-}
-
 #[derive(Clone, Copy)]
 pub struct Site {
     pub lat: f64,
     pub lon: f64,
-    pub alt_m: Altitude,
-}
-
-// What a receiver claims: a site, or none.
-#[derive(Clone, Copy)]
-pub enum Claimed {
-    At(Site),
-    Nowhere,
+    pub alt_m: Option<i32>,
 }
 
 // Question 4 of a site.
@@ -53,41 +39,34 @@ pub fn same_place(a: Site, b: Site) -> bool
 pub fn antenna_m(s: Site) -> f64
     ensures { result ≡ antenna s }
 {
-    let alt = s.alt_m;
-    match alt {
-        Altitude::Metres(m) => horizon::antenna_m(m),
-        Altitude::Unknown => horizon::antenna_m(0),
-    }
+    horizon::antenna_m(s.alt_m.unwrap_or(0))
 }
 
 // The cell, or 1,600 + the far bin, of a position seen from a site.
-fn place_at(site_lat: f64, site_lon: f64, lat: f64, lon: f64) -> u16
-    requires { T (in_degrees site_lat site_lon) × T (in_degrees lat lon) }
-    ensures { (result ≡ placed site_lat site_lon lat lon) × (result < 1672) }
+pub fn place_in(s: Site, lat: f64, lon: f64) -> u16
+    requires { T (held s) × T (in_degrees lat lon) }
+    ensures { (result ≡ placed s.lat s.lon lat lon) × (result < 1672) }
 {
-    let lat1 = degrees::tick(site_lat);
-    let lon1 = degrees::tick(site_lon);
+    let lat1 = degrees::tick(s.lat);
+    let lon1 = degrees::tick(s.lon);
     let lat2 = degrees::tick(lat);
     let lon2 = degrees::tick(lon);
     site::place(lat1, lon1, lat2, lon2) as u16
 }
 
-// The same from a site that is within degrees.
-pub fn place_in(s: Site, lat: f64, lon: f64) -> u16
-    requires { T (held s) × T (in_degrees lat lon) }
-    ensures { (result ≡ placed s.lat s.lon lat lon) × (result < 1672) }
-{
-    place_at(s.lat, s.lon, lat, lon)
-}
-
 // The same of any four degrees: 65,535 where they are out of range.
+#[tactic(auto, unfolding(crate::specs::Sites::placing))]
 pub fn place(site_lat: f64, site_lon: f64, lat: f64, lon: f64) -> u16
     ensures { result ≡ placing site_lat site_lon lat lon }
 {
-    if degrees::in_degrees(site_lat, site_lon) {
-        if degrees::in_degrees(lat, lon) {
-            return place_at(site_lat, site_lon, lat, lon);
-        }
+    let s = Site {
+        lat: site_lat,
+        lon: site_lon,
+        alt_m: None,
+    };
+    if in_degrees(s) && degrees::in_degrees(lat, lon) {
+        place_in(s, lat, lon)
+    } else {
+        65535
     }
-    65535
 }

@@ -1,14 +1,17 @@
 // The seven calls as C functions over lent memory: rows as 25 numbers each (crate `flat`), cells, three ends, a key as four numbers, and nine numbers
 // for the answer (crate `replies`). Nothing is asked of any of them: what is no watch in order is refused, and a refusal changes nothing that was lent
-// but the answer.
+// but the answer. C hands over the parts of a watch one by one and has no Option: a tag of 0 says that the value behind it is none. It knows each call by
+// a name of its own, so the seven stand side by side.
 ghost use Rattle.receiver.specs.Calls as calls;
 ghost use Rattle.rows.specs.Read.{watch_is};
 ghost use Rattle.flat.specs.Table.{rows_of};
-ghost use Rattle.replies.specs.Replies.{altitude_by, site_by, feet_by, Told};
+ghost use Rattle.sites.specs.Sites.{given};
+ghost use Rattle.replies.specs.Replies.{Told};
 ghost use Rattle.packing.specs.Words.{key_of};
 
 use heard::Position;
-use replies::{altitude_by, feet_by, key_by, site_by, tell};
+use replies::{key_by, tell};
+use sites::Site;
 
 #[unsafe(no_mangle)]
 pub extern "C" fn siting_fresh(
@@ -19,8 +22,7 @@ pub extern "C" fn siting_fresh(
 )
     ensures { Told answer.new rows.old rows.new cells.new ends.new (calls.fresh_call (watch_is (rows_of rows.old) cells.old ends.old)) }
 {
-    let a = lent::fresh(rows, cells, ends);
-    tell(answer, a);
+    tell(answer, lent::fresh(rows, cells, ends));
 }
 
 #[unsafe(no_mangle)]
@@ -36,17 +38,15 @@ pub extern "C" fn siting_claim(
     alt: u8,
     alt_m: i32,
 )
-    ensures { Told answer.new rows.old rows.new cells.new ends.new (calls.call_on (watch_is (rows_of rows.old) cells.old ends.old) (key_of key.now) (calls.claim (site_by site lat lon (altitude_by alt alt_m)))) }
+    ensures { Told answer.new rows.old rows.new cells.new ends.new (calls.call_on (watch_is (rows_of rows.old) cells.old ends.old) (key_of key.now) (calls.claim (given site (record { lat = lat; lon = lon; alt_m = given alt alt_m })))) }
 {
-    let k = key_by(key);
-    let a = lent::claim(
-        rows,
-        cells,
-        ends,
-        k,
-        site_by(site, lat, lon, altitude_by(alt, alt_m)),
-    );
-    tell(answer, a);
+    let at = Site {
+        lat,
+        lon,
+        alt_m: (alt != 0).then_some(alt_m),
+    };
+    let claimed = (site != 0).then_some(at);
+    tell(answer, lent::claim(rows, cells, ends, key_by(key), claimed));
 }
 
 #[unsafe(no_mangle)]
@@ -63,18 +63,16 @@ pub extern "C" fn siting_position(
     address: u32,
     at_ms: u64,
 )
-    ensures { Told answer.new rows.old rows.new cells.new ends.new (calls.call_on (watch_is (rows_of rows.old) cells.old ends.old) (key_of key.now) (calls.position (record { lat = lat; lon = lon; feet = feet_by has_feet feet; address = address; at_ms = at_ms }))) }
+    ensures { Told answer.new rows.old rows.new cells.new ends.new (calls.call_on (watch_is (rows_of rows.old) cells.old ends.old) (key_of key.now) (calls.position (record { lat = lat; lon = lon; feet = given has_feet feet; address = address; at_ms = at_ms }))) }
 {
-    let k = key_by(key);
     let p = Position {
-        lat: lat,
-        lon: lon,
-        feet: feet_by(has_feet, feet),
-        address: address,
-        at_ms: at_ms,
+        lat,
+        lon,
+        feet: (has_feet != 0).then_some(feet),
+        address,
+        at_ms,
     };
-    let a = lent::position(rows, cells, ends, k, p);
-    tell(answer, a);
+    tell(answer, lent::position(rows, cells, ends, key_by(key), p));
 }
 
 #[unsafe(no_mangle)]
@@ -89,9 +87,10 @@ pub extern "C" fn siting_judging(
 )
     ensures { Told answer.new rows.old rows.new cells.new ends.new (calls.call_on (watch_is (rows_of rows.old) cells.old ends.old) (key_of key.now) (calls.judging now_ms aircraft)) }
 {
-    let k = key_by(key);
-    let a = lent::judging(rows, cells, ends, k, now_ms, aircraft);
-    tell(answer, a);
+    tell(
+        answer,
+        lent::judging(rows, cells, ends, key_by(key), now_ms, aircraft),
+    );
 }
 
 #[unsafe(no_mangle)]
@@ -104,9 +103,7 @@ pub extern "C" fn siting_check(
 )
     ensures { Told answer.new rows.old rows.new cells.new ends.new (calls.call_on (watch_is (rows_of rows.old) cells.old ends.old) (key_of key.now) calls.check) }
 {
-    let k = key_by(key);
-    let a = lent::check(rows, cells, ends, k);
-    tell(answer, a);
+    tell(answer, lent::check(rows, cells, ends, key_by(key)));
 }
 
 #[unsafe(no_mangle)]
@@ -119,9 +116,7 @@ pub extern "C" fn siting_take_out(
 )
     ensures { Told answer.new rows.old rows.new cells.new ends.new (calls.call_on (watch_is (rows_of rows.old) cells.old ends.old) (key_of key.now) calls.take_out) }
 {
-    let k = key_by(key);
-    let a = lent::take_out(rows, cells, ends, k);
-    tell(answer, a);
+    tell(answer, lent::take_out(rows, cells, ends, key_by(key)));
 }
 
 #[unsafe(no_mangle)]
@@ -133,6 +128,5 @@ pub extern "C" fn siting_drop_oldest(
 )
     ensures { Told answer.new rows.old rows.new cells.new ends.new (calls.drop_oldest (watch_is (rows_of rows.old) cells.old ends.old)) }
 {
-    let a = lent::drop_oldest(rows, cells, ends);
-    tell(answer, a);
+    tell(answer, lent::drop_oldest(rows, cells, ends));
 }

@@ -1,6 +1,6 @@
 // The C functions for the relay's Rust: the horizon and the placing of a position here, the seven calls in `calls`, the turn keeper in `ticks`. include/siting.h
 // declares them.
-#![tactic(auto)]
+#![tactic(auto, unfolding(replies::specs::Replies::Told))]
 
 ghost use Rattle.std.specs.Prelude.{◌≡◌};
 ghost use Rattle.floats.specs.Horizon.{horizon};

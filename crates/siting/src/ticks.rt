@@ -2,24 +2,17 @@
 ghost use Rattle.std.specs.Prelude.{◌≡◌};
 ghost use Rattle.rows.specs.Read.{form, watch_is};
 ghost use Rattle.flat.specs.Table.{rows_of};
-ghost use Rattle.replies.specs.Replies.{plain};
 ghost use Rattle.turns.specs.Turn.{turn_on};
 ghost use Rattle.siting.specs.Ticks.{turn_words, Ticked};
 
 use turns::Turned;
 
-fn put(answer: &mut [u64; 9], what: u64, value: u64, next: u64)
-    ensures { answer.new ≡ plain what value next 0 }
-{
-    *answer = [what, value, next, 0, 0, 0, 0, 0, 0];
-}
-
 fn put_turn(answer: &mut [u64; 9], t: Turned)
     ensures { answer.new ≡ turn_words t }
 {
     match t {
-        Turned::Refused(n) => put(answer, 0, n as u64, 0),
-        Turned::Named { count, next } => put(answer, 6, count as u64, next as u64),
+        Turned::Refused(n) => replies::put(answer, 0, n as u64, 0, 0),
+        Turned::Named { count, next } => replies::put(answer, 6, count as u64, next as u64, 0),
     }
 }
 
@@ -35,6 +28,5 @@ pub extern "C" fn siting_turn(
 )
     ensures { Ticked answer.new list.new (turn_on form (watch_is (rows_of rows.now) cells.now ends.now) next k list.old) }
 {
-    let t = turns::turn(rows, cells, ends, next, k, list);
-    put_turn(answer, t);
+    put_turn(answer, turns::turn(rows, cells, ends, next, k, list));
 }

@@ -1,11 +1,11 @@
 -- A chain as question 2 asks for it is a list of rows along the links after that ends in none. Two such lists that begin in one row are one
 -- list; so none has a row twice, and two that end in different rows have no row in common.
+use Rattle.std.specs.Prelude.{Option, None, Some}
 use mathlib.Core.Path.{◌≡◌, refl, sym, ap, ap₂, ◌∙◌, subst}
 use mathlib.Core.Logic.{◌≢◌}
 use Prim.Native.Nat.{ℕ, zero, suc, ◌≤◌}
 use native.Mathlib.Omega.{arith}
 use mathlib.Core.Bool.{true}
-use mathlib.Core.Option.{Option, none, some}
 use mathlib.Core.List.{List, [], ◌∷◌, ◌++◌}
 use lib.Dec.{eqb, ltb}
 use lib.ListN.{length, length-append}
@@ -76,28 +76,28 @@ module _ {P : Type 0} (u : P) (rows : List (Row P)) (small : length rows ≤ NON
   Is : ℕ → List ℕ → Type 0
   Is at l = Freed u rows l × (at ≡ first l NONE)
 
-  empty_is : (at : ℕ) (l : List ℕ) → eqb at NONE ≡ true → some [] ≡ some l → Is at l
+  empty_is : (at : ℕ) (l : List ℕ) → eqb at NONE ≡ true → Some [] ≡ Some l → Is at l
   unfolding Is
   empty_is at l p e = let q : [] ≡ l = cc in subst (λ (x : List ℕ). Freed u rows x × (at ≡ first x NONE)) q (tt, eqb_true at NONE p)
 
-  pub chain_finds : (f at : ℕ) (l : List ℕ) → chain u rows f at ≡ some l → Freed u rows l × (at ≡ first l NONE)
+  pub chain_finds : (f at : ℕ) (l : List ℕ) → chain u rows f at ≡ Some l → Freed u rows l × (at ≡ first l NONE)
   unfolding Is
   chain_finds zero at l e =
-      by_bool (eqb at NONE) (λ p. empty_is at l p (rw p at e)) (λ p. let z : ◌≡◌ {A = Option (List ℕ)} none (some l) = rw p at e in let n : ◌≡◌ {A = ℕ} 0 1 = cc in absurd (omega arith))
+      by_bool (eqb at NONE) (λ p. empty_is at l p (rw p at e)) (λ p. let z : ◌≡◌ {A = Option (List ℕ)} None (Some l) = rw p at e in let n : ◌≡◌ {A = ℕ} 0 1 = cc in absurd (omega arith))
   chain_finds (suc f) at l e =
       by_bool (eqb at NONE) (λ p. empty_is at l p (rw p at e))
       (λ p. by_bool (ltb at (length rows))
       (λ q. more q (chain u rows f (row_at u rows at).next) (λ m k. chain_finds f (row_at u rows at).next m k) (rw (p, q) at e))
-      (λ q. let z : ◌≡◌ {A = Option (List ℕ)} none (some l) = rw (p, q) at e in let n : ◌≡◌ {A = ℕ} 0 1 = cc in absurd (omega arith)))
+      (λ q. let z : ◌≡◌ {A = Option (List ℕ)} None (Some l) = rw (p, q) at e in let n : ◌≡◌ {A = ℕ} 0 1 = cc in absurd (omega arith)))
     where
-      more : ltb at (length rows) ≡ true → (o : Option (List ℕ)) → ((m : List ℕ) → o ≡ some m → Freed u rows m × ((row_at u rows at).next ≡ first m NONE)) → onto at o ≡ some l → Freed u rows l × (at ≡ first l NONE)
-      more q none h k = let n : ◌≡◌ {A = ℕ} 0 1 = cc in absurd (omega arith)
-      more q (some m) h k =
+      more : ltb at (length rows) ≡ true → (o : Option (List ℕ)) → ((m : List ℕ) → o ≡ Some m → Freed u rows m × ((row_at u rows at).next ≡ first m NONE)) → onto at o ≡ Some l → Freed u rows l × (at ≡ first l NONE)
+      more q None h k = let n : ◌≡◌ {A = ℕ} 0 1 = cc in absurd (omega arith)
+      more q (Some m) h k =
           let g = h m refl in
           let x : ◌≡◌ {A = List ℕ} (at ∷ m) l = cc in
           subst (λ (y : List ℕ). Freed u rows y × (at ≡ first y NONE)) x ((ltb_true at (length rows) q, g.1, g.0), refl)
 
-  pub chain_is_lem : (l : List ℕ) (f : ℕ) → length l ≤ f → Freed u rows l → chain u rows f (first l NONE) ≡ some l
+  pub chain_is_lem : (l : List ℕ) (f : ℕ) → length l ≤ f → Freed u rows l → chain u rows f (first l NONE) ≡ Some l
   chain_is_lem [] zero n h = rw (eqb_yes NONE NONE refl)
   chain_is_lem [] (suc f) n h = rw (eqb_yes NONE NONE refl)
   chain_is_lem (i ∷ l) zero n h = absurd (omega arith)

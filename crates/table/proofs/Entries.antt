@@ -1,10 +1,10 @@
 -- The used rows, oldest first, as the list of Order; and the search: the first row with the key is the first entry with it.
+use Rattle.std.specs.Prelude.{None, Some}
 use mathlib.Core.Path.{◌≡◌, refl, sym, ap, ap₂}
 use mathlib.Core.Logic.{◌≢◌}
 use Prim.Native.Nat.{ℕ, zero, suc, ◌≤◌}
 use native.Mathlib.Omega.{arith}
 use mathlib.Core.Bool.{true, false}
-use mathlib.Core.Option.{none, some}
 use mathlib.Core.List.{List, [], ◌∷◌, ◌++◌}
 use lib.ListN.{length}
 use Rattle.table.specs.Machine.{Key, same}
@@ -44,14 +44,14 @@ module _ {P : Type 0} (F : Form P) where
     pub row : ℕ
     pub post : List ℕ
     pub splits : used ≡ pre ++ row ∷ post
-    pub search : find_row F.unmade w.rows f k (first used NONE) ≡ some row
-    pub finds : find k (entries w used) ≡ some (body_at F w row)
+    pub search : find_row F.unmade w.rows f k (first used NONE) ≡ Some row
+    pub finds : find k (entries w used) ≡ Some (body_at F w row)
     pub key_is : same k (row_at F.unmade w.rows row).key ≡ true
     pub rest : without k (entries w used) ≡ entries w (pre ++ post)
     pub puts : (s : Body P) → replaced k s (entries w used) ≡ entries w pre ++ (record { key = (row_at F.unmade w.rows row).key; state = s } ∷ entries w post)
 
   pub data Located (w : Watch P) (f : ℕ) (k : Key) (used : List ℕ) : Type 0 where
-    absent : find_row F.unmade w.rows f k (first used NONE) ≡ none → find k (entries w used) ≡ none → Located w f k used
+    absent : find_row F.unmade w.rows f k (first used NONE) ≡ None → find k (entries w used) ≡ None → Located w f k used
     present : At w f k used → Located w f k used
 
   pub locate : (w : Watch P) (f : ℕ) (k : Key) (used : List ℕ) (p : ℕ) → length w.rows ≤ NONE → length used ≤ f → Linked F.unmade w.rows p used NONE → Located w f k used

@@ -1,8 +1,8 @@
 -- The order of use as a list: at most C keys with their machines' states, the least recently marked first. No links: the argument of
 -- demand 3 is about this list, and the watch of rows and links is proved to answer as it does (`histories` in Refine).
+use Rattle.std.specs.Prelude.{Option, None, Some}
 use Prim.Native.Nat.{ℕ}
 use mathlib.Core.Bool.{cond}
-use mathlib.Core.Option.{Option, none, some}
 use mathlib.Core.List.{List, [], ◌∷◌, ◌++◌}
 use lib.Dec.{ltb}
 use lib.ListN.{length}
@@ -14,8 +14,8 @@ pub record Entry (S : Type 0) : Type 0 where
 
 -- the state of the first entry with the key
 abbrev pub find : {S : Type 0} → Key → List (Entry S) → Option S
-find k [] = none
-find k (e ∷ t) = cond (same k e.key) (some e.state) (find k t)
+find k [] = None
+find k (e ∷ t) = cond (same k e.key) (Some e.state) (find k t)
 
 -- the table without the first entry with the key
 abbrev pub without : {S : Type 0} → Key → List (Entry S) → List (Entry S)
@@ -33,14 +33,14 @@ behead [] = []
 behead (e ∷ t) = t
 
 abbrev pub oldest : {S : Type 0} → List (Entry S) → Option Key
-oldest [] = none
-oldest (e ∷ t) = some e.key
+oldest [] = None
+oldest (e ∷ t) = Some e.key
 
 abbrev pub room : {S : Type 0} → ℕ → List (Entry S) → List (Entry S)
 room C t = cond (ltb (length t) C) t (behead t)
 
 abbrev pub pushed : {S : Type 0} → ℕ → List (Entry S) → Option Key
-pushed C t = cond (ltb (length t) C) none (oldest t)
+pushed C t = cond (ltb (length t) C) None (oldest t)
 
 abbrev pub last : {S : Type 0} → List (Entry S) → Key → S → List (Entry S)
 last t k s = t ++ (record { key = k; state = s } ∷ [])
@@ -55,7 +55,7 @@ module _ {Act Out : Type 0} (kind : Act → Kind) (M : Machine Act Out) (C : ℕ
 
   abbrev pub held_call : List (Entry M.State) → Key → Kind → Outcome M.State Out → Step (List (Entry M.State)) Out
   held_call t k κ (refuse n) = record { next = t; answer = refused n }
-  held_call t k κ (accept s o) = record { next = changed κ t k s; answer = said none o }
+  held_call t k κ (accept s o) = record { next = changed κ t k s; answer = said None o }
 
   -- an accepted claim on a key not held
   abbrev pub entered : List (Entry M.State) → Key → Outcome M.State Out → Step (List (Entry M.State)) Out
@@ -69,8 +69,8 @@ module _ {Act Out : Type 0} (kind : Act → Kind) (M : Machine Act Out) (C : ℕ
   new_call t k leaves r = record { next = t; answer = refused 3 }
 
   abbrev pub serve : List (Entry M.State) → Key → Act → Option M.State → Step (List (Entry M.State)) Out
-  serve t k a none = new_call t k (kind a) (M.act k M.fresh a)
-  serve t k a (some s) = held_call t k (kind a) (M.act k s a)
+  serve t k a None = new_call t k (kind a) (M.act k M.fresh a)
+  serve t k a (Some s) = held_call t k (kind a) (M.act k s a)
 
   abbrev pub table_step : List (Entry M.State) → Call Act → Step (List (Entry M.State)) Out
   table_step t c = serve t c.key c.act (find c.key t)

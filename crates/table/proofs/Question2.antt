@@ -1,9 +1,9 @@
 -- What a yes to questions 1 and 2 means: two lists of row numbers that the links run along, each row once in one of them, every row's part sound.
+use Rattle.std.specs.Prelude.{Option, None, Some}
 use mathlib.Core.Path.{◌≡◌, refl, sym, ap, ◌∙◌}
 use Prim.Native.Nat.{ℕ, zero, suc, ◌+◌, ◌*◌, ◌≤◌, ◌<◌}
 use native.Mathlib.Omega.{arith}
 use mathlib.Core.Bool.{Bool, true, ◌&&◌}
-use mathlib.Core.Option.{Option, none, some}
 use mathlib.Core.List.{List, [], ◌∷◌, ◌++◌}
 use lib.Dec.{eqb, leb, lit≤}
 use lib.ListN.{length, length-append}
@@ -90,9 +90,9 @@ module _ {P : Type 0} (F : Form P) (w : Watch P) (small : length w.rows ≤ NONE
       }
 
   match_facts : (used free : Option (List ℕ)) → chain F.unmade w.rows C w.ends.head ≡ used → chain F.unmade w.rows C w.ends.free ≡ free → chains_match F.unmade w used free ≡ true → all_sound F.sound w.rows ≡ true → Question2 F w
-  match_facts none free e f m s = clash m refl
-  match_facts (some used) none e f m s = clash m refl
-  match_facts (some used) (some free) e f m s =
+  match_facts None free e f m s = clash m refl
+  match_facts (Some used) None e f m s = clash m refl
+  match_facts (Some used) (Some free) e f m s =
       let a = each_in_one used free C in
       let b = back_links F.unmade w.rows NONE used in
       let t = eqb (last_of NONE used) w.ends.tail in
@@ -117,8 +117,8 @@ module _ {P : Type 0} (F : Form P) (w : Watch P) (small : length w.rows ≤ NONE
       let c = q.chained in
       let fu = linked_freed F.unmade w.rows small NONE q.used c.linked in
       let apart : AllApart q.used q.free = (distinct_append q.used q.free c.distinct).2 in
-      let eu : chain F.unmade w.rows C w.ends.head ≡ some q.used = ap (λ (x : ℕ). chain F.unmade w.rows C x) c.head_is ∙ chain_is_lem F.unmade w.rows small q.used C (omega (arith, q.count)) fu in
-      let ef : chain F.unmade w.rows C w.ends.free ≡ some q.free = ap (λ (x : ℕ). chain F.unmade w.rows C x) c.free_is ∙ chain_is_lem F.unmade w.rows small q.free C (omega (arith, q.count)) c.freed in
+      let eu : chain F.unmade w.rows C w.ends.head ≡ Some q.used = ap (λ (x : ℕ). chain F.unmade w.rows C x) c.head_is ∙ chain_is_lem F.unmade w.rows small q.used C (omega (arith, q.count)) fu in
+      let ef : chain F.unmade w.rows C w.ends.free ≡ Some q.free = ap (λ (x : ℕ). chain F.unmade w.rows C x) c.free_is ∙ chain_is_lem F.unmade w.rows small q.free C (omega (arith, q.count)) c.freed in
       rw (eu, ef, one_in q.used q.free C (λ i n. in_just i n apart), back_links_lem F.unmade w.rows small NONE q.used c.linked, eqb_yes (last_of NONE q.used) w.ends.tail (sym c.tail_is), rows_sound F.unmade F.sound w.rows q.sound_at)
     where
       in_just : (i : ℕ) → i < C → AllApart q.used q.free → in_one q.used q.free i ≡ true

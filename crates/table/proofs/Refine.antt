@@ -1,9 +1,9 @@
 -- The watch answers as the list of Order: each call gets the same answer and the watch stands for the list again (`step_agrees`), so every list of
 -- calls gets the same answers (`histories`).
+use Rattle.std.specs.Prelude.{Option, None, Some}
 use mathlib.Core.Path.{◌≡◌, refl, sym, ap, ap₂, ◌∙◌, subst}
 use Prim.Native.Nat.{ℕ, ◌≤◌, ◌<◌}
 use native.Mathlib.Omega.{arith}
-use mathlib.Core.Option.{Option, none, some}
 use mathlib.Core.List.{List, [], ◌∷◌, ◌++◌}
 use lib.ListN.{length}
 use Rattle.table.specs.Machine.{Key, Kind, enters, uses, looks, leaves, Outcome, refuse, accept, Call, Answer, said, Step, Event, history}
@@ -86,11 +86,11 @@ module _ {Act Out : Type 0} (kind : Act → Kind) (R : Rowed Act Out) (law : Law
       go : Located R.form w (length w.rows) c.key used →
           Agree (located kind R w c.key c.act (find_row R.form.unmade w.rows (length w.rows) c.key (first used NONE))) (table_step kind (rowed_machine R) C t c)
       go (absent e g) =
-          let f : find c.key t ≡ none = ap (λ (x : Table). find c.key x) (sym v.table) ∙ g in
+          let f : find c.key t ≡ None = ap (λ (x : Table). find c.key x) (sym v.table) ∙ g in
           rw (e, f) (new_step w t used free v c.key (kind c.act) (R.act c.key (fresh_body R.form) c.act)
           (λ s o q. law.keeps c.key (fresh_body R.form) c.act s o q (record { sound_part = law.form_laws.unmade_sound; wide = law.form_laws.blank_wide })))
       go (present a) =
-          let f : find c.key t ≡ some (body_at R.form w a.row) = ap (λ (x : Table). find c.key x) (sym v.table) ∙ a.finds in
+          let f : find c.key t ≡ Some (body_at R.form w a.row) = ap (λ (x : Table). find c.key x) (sym v.table) ∙ a.finds in
           let v' : Reps w t (a.pre ++ a.row ∷ a.post) free = subst (λ (l : List ℕ). Reps w t l free) a.splits v in
           let below : a.row < C = row_below R.form law.form_laws C one most? w t a.pre a.row a.post free v' in
           rw (a.search, f) (held_step w t used free v (length w.rows) c.key a (kind c.act) (R.act c.key (body_at R.form w a.row) c.act)

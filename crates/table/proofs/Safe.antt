@@ -1,11 +1,11 @@
 -- For code that works on the rows: each link that is not none is a row's number; and a watch that passes questions 1 and 2 passes them again after
 -- every call.
+use Rattle.std.specs.Prelude.{Some}
 use mathlib.Core.Path.{◌≡◌, refl, sym, ap, subst}
 use mathlib.Core.Logic.{◌≢◌}
 use Prim.Native.Nat.{ℕ, zero, suc, ◌≤◌, ◌<◌}
 use native.Mathlib.Omega.{arith}
 use mathlib.Core.Bool.{true, false}
-use mathlib.Core.Option.{some}
 use mathlib.Core.List.{List, [], ◌∷◌, ◌++◌, map}
 use lib.Dec.{eqb, ltb}
 use lib.ListN.{length, set, get_or-eq_default}
@@ -67,14 +67,14 @@ module _ {P : Type 0} (u : P) where
       }
 
 -- the row that a search finds in a watch that passes questions 1 and 2
-pub found_row : {P : Type 0} (F : Form P) (w : Watch P) (k : Key) (i : ℕ) → question1 F w ≡ true → question2 F w ≡ true → find_row F.unmade w.rows (length w.rows) k w.ends.head ≡ some i → Neighbours F.unmade (chain_of w) i
+pub found_row : {P : Type 0} (F : Form P) (w : Watch P) (k : Key) (i : ℕ) → question1 F w ≡ true → question2 F w ≡ true → find_row F.unmade w.rows (length w.rows) k w.ends.head ≡ Some i → Neighbours F.unmade (chain_of w) i
 found_row F w k i h₁ h₂ e =
     let small : length w.rows ≤ NONE = omega (arith, (question_one F w h₁).at_most, most_none) in
     let q = question_two F w small h₂ in
-    let e' : find_row F.unmade w.rows (length w.rows) k (first q.used NONE) ≡ some i = subst (λ (x : ℕ). find_row F.unmade w.rows (length w.rows) k x ≡ some i) q.chained.head_is e in
+    let e' : find_row F.unmade w.rows (length w.rows) k (first q.used NONE) ≡ Some i = subst (λ (x : ℕ). find_row F.unmade w.rows (length w.rows) k x ≡ Some i) q.chained.head_is e in
     go q.used q.free q.chained e' (locate F w (length w.rows) k q.used NONE small (omega (arith, q.count)) q.chained.linked)
   where
-    go : (used free : List ℕ) → Chained F.unmade (chain_of w) used free → find_row F.unmade w.rows (length w.rows) k (first used NONE) ≡ some i → Located F w (length w.rows) k used → Neighbours F.unmade (chain_of w) i
+    go : (used free : List ℕ) → Chained F.unmade (chain_of w) used free → find_row F.unmade w.rows (length w.rows) k (first used NONE) ≡ Some i → Located F w (length w.rows) k used → Neighbours F.unmade (chain_of w) i
     go used free v x (absent y z) = let n : ◌≡◌ {A = ℕ} 0 1 = cc in absurd (omega arith)
     go used free v x (present a) =
         let r : a.row ≡ i = (let y = a.search in cc) in

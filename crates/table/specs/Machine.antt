@@ -1,7 +1,6 @@
 -- A key's calls: what a call does to the key's row, its answer, and a list of calls with their answers. Definitions only.
 -- Act are the calls' arguments without the key, Out what an accepted call says: both are parameters, and so is what a row holds.
-use Rattle.std.specs.Prelude.{ℕ, Bool, true, false, ◌&&◌, List, [], ◌∷◌, eqb}
-use Rattle.std.proofs.Math.Option.{Option}
+use Rattle.std.specs.Prelude.{ℕ, Bool, true, false, ◌&&◌, List, [], ◌∷◌, eqb, Option}
 
 -- A key is 32 bytes.
 abbrev pub Key : Type 0

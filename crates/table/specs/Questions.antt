@@ -1,6 +1,5 @@
 -- Questions 1, 2 and 3 of a lent watch (01, 'Seven calls, seven questions'), each as 01 says it. Definitions only.
-use Rattle.std.specs.Prelude.{ℕ, zero, suc, ◌*◌, Bool, true, false, not, cond, ◌&&◌, ◌||◌, List, [], ◌∷◌, leb, ltb, eqb, length}
-use Rattle.std.proofs.Math.Option.{Option, none, some}
+use Rattle.std.specs.Prelude.{ℕ, zero, suc, ◌*◌, Bool, true, false, not, cond, ◌&&◌, ◌||◌, List, [], ◌∷◌, leb, ltb, eqb, length, Option, None, Some}
 use Rattle.table.specs.Machine.{Key, same}
 use Rattle.table.specs.Rows.{NONE, Row, Watch, Form, row_at}
 
@@ -32,8 +31,8 @@ last_of p [] = p
 last_of p (i ∷ l) = last_of i l
 
 abbrev pub onto : ℕ → Option (List ℕ) → Option (List ℕ)
-onto i none = none
-onto i (some l) = some (i ∷ l)
+onto i None = None
+onto i (Some l) = Some (i ∷ l)
 
 -- every row's part, the free rows' too
 abbrev pub all_sound : {P : Type 0} → (P → Bool) → List (Row P) → Bool
@@ -45,8 +44,8 @@ module _ {P : Type 0} (u : P) where
   -- A chain: the row numbers from `at` along the links after, up to none. None where it leaves the rows, or goes on after f rows
   -- (f is C: it would come back on itself).
   abbrev pub chain : List (Row P) → ℕ → ℕ → Option (List ℕ)
-  chain rows zero at = cond (eqb at NONE) (some []) none
-  chain rows (suc f) at = cond (eqb at NONE) (some []) (cond (ltb at (length rows)) (onto at (chain rows f (row_at u rows at).next)) none)
+  chain rows zero at = cond (eqb at NONE) (Some []) None
+  chain rows (suc f) at = cond (eqb at NONE) (Some []) (cond (ltb at (length rows)) (onto at (chain rows f (row_at u rows at).next)) None)
 
   -- the links before: each row's is the row before it, the first one's is p
   abbrev pub back_links : List (Row P) → ℕ → List ℕ → Bool
@@ -55,14 +54,14 @@ module _ {P : Type 0} (u : P) where
 
   -- each row in exactly one of the used chain and the free chain, the used chain's back links and last row matching
   abbrev pub chains_match : Watch P → Option (List ℕ) → Option (List ℕ) → Bool
-  chains_match w none free = false
-  chains_match w (some used) none = false
-  chains_match w (some used) (some free) = each_in_one used free (length w.rows) && (back_links w.rows NONE used && eqb (last_of NONE used) w.ends.tail)
+  chains_match w None free = false
+  chains_match w (Some used) None = false
+  chains_match w (Some used) (Some free) = each_in_one used free (length w.rows) && (back_links w.rows NONE used && eqb (last_of NONE used) w.ends.tail)
 
   -- 3: the first row of the used chain with the key, oldest first
   abbrev pub find_row : List (Row P) → ℕ → Key → ℕ → Option ℕ
-  find_row rows zero k at = none
-  find_row rows (suc f) k at = cond (eqb at NONE) none (cond (same k (row_at u rows at).key) (some at) (find_row rows f k (row_at u rows at).next))
+  find_row rows zero k at = None
+  find_row rows (suc f) k at = cond (eqb at NONE) None (cond (same k (row_at u rows at).key) (Some at) (find_row rows f k (row_at u rows at).next))
 
 -- 2: Is each row in exactly one of the used chain and the free chain, the used chain's back links and last row matching, each held
 -- site within degrees, and each held distance a step of 5 from 5 to 800? (The last two are the form's `sound`.)

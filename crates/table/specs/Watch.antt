@@ -1,6 +1,5 @@
 -- The calls on a watch (01, 'Seven calls, seven questions' and 'The order of use'), for any lent watch. Definitions only.
-use Rattle.std.specs.Prelude.{ℕ, zero, suc, ◌*◌, cond, List, [], ◌∷◌, ◌++◌, eqb, length, set, take, drop}
-use Rattle.std.proofs.Math.Option.{Option, none, some}
+use Rattle.std.specs.Prelude.{ℕ, zero, suc, ◌*◌, cond, List, [], ◌∷◌, ◌++◌, eqb, length, set, take, drop, Option, None, Some}
 use Rattle.std.proofs.lemmas.List.Edits.{sets}
 use Rattle.table.specs.Machine.{Key, Kind, enters, uses, looks, leaves, Outcome, refuse, accept, Machine, Call, refused, said, Step}
 use Rattle.table.specs.Rows.{NONE, Row, Watch, Form, chain_of, with_chain, unmade_row, row_at, unlink, link_last, release, take_free}
@@ -44,7 +43,7 @@ module _ {P : Type 0} (F : Form P) where
 
   -- whose key the answer carries
   abbrev pub pushed_out : Watch P → Option Key
-  pushed_out w = cond (eqb w.ends.free NONE) (some (row_at F.unmade w.rows w.ends.head).key) none
+  pushed_out w = cond (eqb w.ends.free NONE) (Some (row_at F.unmade w.rows w.ends.head).key) None
 
   -- the first free row is taken for the key; it becomes most recently used
   unfoldable pub take_row : Watch P → Key → Body P → Watch P
@@ -75,7 +74,7 @@ fresh_watch F C = record {
 
 -- fresh asks question 1 alone
 abbrev pub fresh_step : {P Out : Type 0} → Form P → Out → Watch P → Step (Watch P) Out
-fresh_step F o w = cond (question1 F w) (record { next = fresh_watch F (length w.rows); answer = said none o }) (record { next = w; answer = refused 1 })
+fresh_step F o w = cond (question1 F w) (record { next = fresh_watch F (length w.rows); answer = said None o }) (record { next = w; answer = refused 1 })
 
 -- THE CALLS WITH A KEY. What a row holds, and what a call does to its part and cells (its own questions are asked there).
 pub record Rowed (Act Out : Type 0) : Type 1 where
@@ -101,7 +100,7 @@ module _ {Act Out : Type 0} (kind : Act → Kind) (R : Rowed Act Out) where
   -- a call on row i, whose key is k
   abbrev pub on_row : Watch R.Part → ℕ → Key → Kind → Outcome (Body R.Part) Out → Step (Watch R.Part) Out
   on_row w i k κ (refuse n) = refusal w n
-  on_row w i k κ (accept s o) = record { next = kept_row κ w i k s; answer = said none o }
+  on_row w i k κ (accept s o) = record { next = kept_row κ w i k s; answer = said None o }
 
   -- a claim on a key not held
   abbrev pub on_new : Watch R.Part → Key → Outcome (Body R.Part) Out → Step (Watch R.Part) Out
@@ -116,8 +115,8 @@ module _ {Act Out : Type 0} (kind : Act → Kind) (R : Rowed Act Out) where
   on_none w k leaves r = refusal w 3
 
   abbrev pub located : Watch R.Part → Key → Act → Option ℕ → Step (Watch R.Part) Out
-  located w k a none = on_none w k (kind a) (R.act k (fresh_body R.form) a)
-  located w k a (some i) = on_row w i k (kind a) (R.act k (body_at R.form w i) a)
+  located w k a None = on_none w k (kind a) (R.act k (fresh_body R.form) a)
+  located w k a (Some i) = on_row w i k (kind a) (R.act k (body_at R.form w i) a)
 
   -- questions in order: 1, 2, 3, then the call's own
   abbrev pub watch_step : Watch R.Part → Call Act → Step (Watch R.Part) Out
@@ -135,6 +134,6 @@ drop_step F freed w =
     (cond (question2 F w)
     (cond (eqb w.ends.head NONE)
     (refusal w 3)
-    (record { next = free_row F w w.ends.head; answer = said none (freed (row_at F.unmade w.rows w.ends.head).key) }))
+    (record { next = free_row F w w.ends.head; answer = said None (freed (row_at F.unmade w.rows w.ends.head).key) }))
     (refusal w 2))
     (refusal w 1)

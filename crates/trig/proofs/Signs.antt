@@ -1,11 +1,13 @@
 -- Laws of a number that is held as its sign and its size: products, differences, quotients that round toward zero.
 -- Assumes nothing.
-use mathlib.Core.Path.{◌≡◌, refl, sym, ap}
-use mathlib.Core.Bool.{Bool, true, false, not, true≢false}
+use mathlib.Core.Path.{◌≡◌, refl, sym, ap, ◌∙◌}
+use mathlib.Core.Bool.{Bool, true, false, not, beq, true≢false}
 use Prim.Native.Nat.{ℕ, zero, suc, ◌+◌, ◌-◌, ◌*◌, ◌/◌, ◌^◌, ◌≤◌, ◌<◌}
 use native.Mathlib.Nat.{mul-zero, zero-mul, zero-div}
 use native.Mathlib.Omega.{arith}
-use borrow.Author.Tests.{le-ltb, lt-ltb, ltb-true}
+use borrow.Author.Tests.{le-ltb, lt-ltb, ltb-true, ltb-false}
+use lib.Dec.{ltb}
+use Rattle.std.specs.Int.{abs_diff}
 use lib.IntN.{ℤ, pos, negsuc, neg_ℤ, nat_abs, ◌-ℤ◌, ◌*ℤ◌, neg_ℤ-neg_ℤ, neg_ℤ-+ℤ, +ℤ_comm, *ℤ_comm}
 use lib.Signed.{quot_z, lt_z}
 use Rattle.trig.specs.Ticks.{scaled}
@@ -71,6 +73,13 @@ pub scaled_comm : (a b : ℤ) → scaled a b ≡ scaled b a
 unfolding scaled
 scaled_comm a b = rw (*ℤ_comm a b)
 
+-- the signs multiply
+pub scaled_signs : (a b : Bool) (m n : ℕ) → scaled (signed a m) (signed b n) ≡ signed (not (beq a b)) (m * n / 2 ^ 30)
+scaled_signs false false m n = scaled_plus false m n
+scaled_signs true false m n = scaled_plus true m n
+scaled_signs false true m n = scaled_minus false m n
+scaled_signs true true m n = scaled_minus true m n
+
 -- ---- sums and differences
 pub sub_le : (m n : ℕ) → n ≤ m → pos m -ℤ pos n ≡ signed false (m - n)
 unfolding signed
@@ -82,6 +91,7 @@ unfolding signed
 sub_lt m zero h = absurd (omega arith)
 sub_lt m (suc n) h = let e : suc n - m ≡ suc (suc n - suc m) = omega arith in rw (lt-ltb m (suc n) h, e)
 
+-- of one sign
 pub plus_plus : (m n : ℕ) → signed false m -ℤ signed false n ≡ pos m -ℤ pos n
 unfolding signed
 plus_plus m n = refl
@@ -90,24 +100,30 @@ pub minus_minus : (m n : ℕ) → signed true m -ℤ signed true n ≡ pos n -�
 unfolding signed
 minus_minus m n = rw (neg_ℤ-neg_ℤ (pos n)) (+ℤ_comm (neg_ℤ (pos m)) (pos n))
 
-pub minus_plus : (m n : ℕ) → signed true m -ℤ signed false n ≡ signed true (m + n)
-unfolding signed
-minus_plus m n = sym (neg_ℤ-+ℤ (pos m) (pos n))
+pub same_sign : (a b : Bool) → not (beq a b) ≡ false → a ≡ b
+same_sign false false h = refl
+same_sign true true h = refl
+same_sign false true h = absurd (true≢false h)
+same_sign true false h = absurd (true≢false h)
 
-pub plus_minus : (m n : ℕ) → signed false m -ℤ signed true n ≡ signed false (m + n)
+-- of two
+pub two_signs : (a b : Bool) (m n : ℕ) → not (beq a b) ≡ true → signed a m -ℤ signed b n ≡ signed a (m + n)
 unfolding signed
-plus_minus m n = rw (neg_ℤ-neg_ℤ (pos n))
+two_signs true false m n h = sym (neg_ℤ-+ℤ (pos m) (pos n))
+two_signs false true m n h = rw (neg_ℤ-neg_ℤ (pos n))
+two_signs false false m n h = absurd (true≢false (sym h))
+two_signs true true m n h = absurd (true≢false (sym h))
+
+-- of two sizes
+sub_by : (m n : ℕ) (b : Bool) → ltb m n ≡ b → signed b (abs_diff m n) ≡ pos m -ℤ pos n
+sub_by m n true h = let l : m < n = ltb-true m n h in ap (signed true) (omega arith) ∙ sym (sub_lt m n l)
+sub_by m n false h = let l : n ≤ m = ltb-false m n h in ap (signed false) (omega arith) ∙ sym (sub_le m n l)
+
+pub sub_sizes : (m n : ℕ) → signed (ltb m n) (abs_diff m n) ≡ pos m -ℤ pos n
+sub_sizes m n = sub_by m n (ltb m n) refl
 
 -- ---- the sign of an integer, and its size
-pub below_zero : (x : ℤ) → lt_z x (pos 0) ≡ true → pos 0 -ℤ x ≡ pos (nat_abs x)
-below_zero (pos n) h = absurd (omega (arith, ltb-true n 0 h))
-below_zero (negsuc n) h = ap pos (omega arith)
-
-pub not_below_zero_lem : (x : ℤ) → lt_z x (pos 0) ≡ false → x ≡ pos (nat_abs x)
-not_below_zero_lem (pos n) h = refl
-not_below_zero_lem (negsuc n) h = absurd (true≢false h)
-
-pub below_zero_signed : (x : ℤ) → lt_z x (pos 0) ≡ true → signed true (nat_abs x) ≡ x
+pub signed_of : (x : ℤ) → signed (lt_z x (pos 0)) (nat_abs x) ≡ x
 unfolding signed
-below_zero_signed (pos n) h = absurd (omega (arith, ltb-true n 0 h))
-below_zero_signed (negsuc n) h = refl
+signed_of (pos n) = rw (le-ltb n 0 (omega arith))
+signed_of (negsuc n) = refl

@@ -4,6 +4,7 @@ ghost use Rattle.trig.specs.Ticks.{scaled};
 ghost use Rattle.trig.specs.Value.{value};
 
 use super::series;
+use std::ops::Sub;
 
 // Zero may have either sign.
 #[derive(Clone, Copy)]
@@ -12,22 +13,34 @@ pub struct Num {
     pub size: u64,
 }
 
-// The sign and the size of a signed integer.
-pub fn split(x: i64) -> Num
-    requires { nat_abs x ≤ 2 ^ 40 }
-    ensures { (value result ≡ x) × (result.size ≡ nat_abs x) }
-{
-    if x < 0 {
-        let n = (0 - x) as u64;
+impl From<i64> for Num {
+    ghost from_gives = { λ x n. (value n ≡ x) × (n.size ≡ nat_abs x) };
+
+    fn from(x: i64) -> Num {
         Num {
-            minus: true,
-            size: n,
+            minus: x < 0,
+            size: x.unsigned_abs(),
         }
-    } else {
-        let n = x as u64;
-        Num {
-            minus: false,
-            size: n,
+    }
+}
+
+impl Sub for Num {
+    type Output = Num;
+
+    ghost can_sub = { λ a b. (a.size ≤ 2 ^ 40) × (b.size ≤ 2 ^ 40) };
+
+    ghost sub_gives = { λ a b n. (value n ≡ value a -ℤ value b) × (n.size ≤ a.size + b.size) };
+
+    fn sub(self, b: Num) -> Num {
+        if self.minus != b.minus {
+            Num {
+                minus: self.minus,
+                size: self.size + b.size,
+            }
+        } else if b.minus {
+            sub(b.size, self.size)
+        } else {
+            sub(self.size, b.size)
         }
     }
 }
@@ -37,7 +50,7 @@ pub fn less(a: i64, b: i64) -> Num
     requires { (nat_abs a ≤ 2 ^ 39) × (nat_abs b ≤ 2 ^ 39) }
     ensures { (value result ≡ a -ℤ b) × (result.size ≤ nat_abs a + nat_abs b) }
 {
-    split(a - b)
+    Num::from(a - b)
 }
 
 // m − n.
@@ -45,42 +58,10 @@ pub fn sub(m: u64, n: u64) -> Num
     requires { (m ≤ 2 ^ 40) × (n ≤ 2 ^ 40) }
     ensures { (value result ≡ pos m -ℤ pos n) × (result.size ≤ m + n) }
 {
-    if n <= m {
-        Num {
-            minus: false,
-            size: m - n,
-        }
-    } else {
-        Num {
-            minus: true,
-            size: n - m,
-        }
+    Num {
+        minus: m < n,
+        size: m.abs_diff(n),
     }
-}
-
-// a − b.
-pub fn diff(a: Num, b: Num) -> Num
-    requires { (a.size ≤ 2 ^ 40) × (b.size ≤ 2 ^ 40) }
-    ensures { (value result ≡ value a -ℤ value b) × (result.size ≤ a.size + b.size) }
-{
-    let m = a.size;
-    let n = b.size;
-    if a.minus {
-        if b.minus {
-            return sub(n, m);
-        }
-        return Num {
-            minus: true,
-            size: m + n,
-        };
-    }
-    if b.minus {
-        return Num {
-            minus: false,
-            size: m + n,
-        };
-    }
-    sub(m, n)
 }
 
 // a × c div 2^30, for a c that is not negative.
@@ -88,10 +69,9 @@ pub fn part(a: Num, c: u64) -> Num
     requires { (a.size ≤ 2 ^ 32) × (c ≤ 2 ^ 30) }
     ensures { (value result ≡ scaled (value a) (pos c)) × (result.size ≤ a.size) }
 {
-    let size = series::mul30(a.size, c);
     Num {
         minus: a.minus,
-        size: size,
+        size: series::mul30(a.size, c),
     }
 }
 
@@ -100,16 +80,8 @@ pub fn scale(a: Num, b: Num) -> Num
     requires { (a.size ≤ 2 ^ 32) × (b.size ≤ 2 ^ 30) }
     ensures { (value result ≡ scaled (value a) (value b)) × (result.size ≤ a.size) }
 {
-    let size = series::mul30(a.size, b.size);
-    if b.minus {
-        Num {
-            minus: !a.minus,
-            size: size,
-        }
-    } else {
-        Num {
-            minus: a.minus,
-            size: size,
-        }
+    Num {
+        minus: a.minus != b.minus,
+        size: series::mul30(a.size, b.size),
     }
 }

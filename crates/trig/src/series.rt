@@ -3,7 +3,7 @@ ghost use Rattle.std.specs.Prelude.{◌≡◌, ◌≤◌, ◌<◌, ◌*◌, ◌/
 ghost use Rattle.trig.specs.Ticks.{deg};
 ghost use Rattle.trig.specs.Series.{rad, term, sin_h, cos_r};
 
-const ONE: u64 = 1073741824;
+const ONE: u64 = 1 << 30;
 
 const K: u64 = 4797524517;
 
@@ -12,7 +12,7 @@ pub fn radians(t: u64) -> u64
     requires { t ≤ deg 45 }
     ensures { (result ≡ rad t) × (result ≤ 843314856) }
 {
-    t * K / 4294967296
+    t * K / (1 << 32)
 }
 
 // One step of either sum.
@@ -36,13 +36,11 @@ pub fn sin_h(r: u64) -> u64
     ensures { (result ≡ sin_h r) × (result ≤ 2 ^ 30) }
 {
     let z = mul30(r, r);
-    let s6 = one_term(z, ONE, 156);
-    let s5 = one_term(z, s6, 110);
-    let s4 = one_term(z, s5, 72);
-    let s3 = one_term(z, s4, 42);
-    let s2 = one_term(z, s3, 20);
-    let s1 = one_term(z, s2, 6);
-    mul30(r, s1)
+    let mut s = ONE;
+    for k in (1..7).rev() {
+        s = one_term(z, s, 2 * k * (2 * k + 1));
+    }
+    mul30(r, s)
 }
 
 pub fn cos_r(r: u64) -> u64
@@ -50,11 +48,9 @@ pub fn cos_r(r: u64) -> u64
     ensures { (result ≡ cos_r r) × (result ≤ 2 ^ 30) }
 {
     let z = mul30(r, r);
-    let c7 = one_term(z, ONE, 182);
-    let c6 = one_term(z, c7, 132);
-    let c5 = one_term(z, c6, 90);
-    let c4 = one_term(z, c5, 56);
-    let c3 = one_term(z, c4, 30);
-    let c2 = one_term(z, c3, 12);
-    one_term(z, c2, 2)
+    let mut c = ONE;
+    for k in (1..8).rev() {
+        c = one_term(z, c, (2 * k - 1) * (2 * k));
+    }
+    c
 }

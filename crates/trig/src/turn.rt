@@ -7,13 +7,13 @@ ghost use Rattle.trig.specs.Value.{value};
 use super::num::Num;
 use super::series;
 
-const DEG_45: u64 = 45 * 16777216;
+const DEG_45: u64 = 45 << 24;
 
-const DEG_90: u64 = 90 * 16777216;
+const DEG_90: u64 = 90 << 24;
 
-const DEG_180: u64 = 180 * 16777216;
+const DEG_180: u64 = 180 << 24;
 
-// 0 to 90 degrees.
+// 0 to 90 degrees. At 45 each of the two has its own series, so neither is the other of what is left to 90.
 fn sin_q(t: u64) -> u64
     requires { t ≤ deg 90 }
     ensures { (result ≡ sin_q t) × (result ≤ 2 ^ 30) }
@@ -42,18 +42,9 @@ pub fn sin_of(t: Num) -> Num
     ensures { (value result ≡ sine (value t)) × (result.size ≤ 2 ^ 30) }
 {
     let n = t.size;
-    if n <= DEG_90 {
-        let s = sin_q(n);
-        Num {
-            minus: t.minus,
-            size: s,
-        }
-    } else {
-        let s = sin_q(DEG_180 - n);
-        Num {
-            minus: t.minus,
-            size: s,
-        }
+    Num {
+        minus: t.minus,
+        size: sin_q(if n <= DEG_90 { n } else { DEG_180 - n }),
     }
 }
 
@@ -62,18 +53,10 @@ pub fn cos_of(t: Num) -> Num
     ensures { (value result ≡ cosine (value t)) × (result.size ≤ 2 ^ 30) }
 {
     let n = t.size;
-    if n <= DEG_90 {
-        let c = cos_q(n);
-        Num {
-            minus: false,
-            size: c,
-        }
-    } else {
-        let c = cos_q(DEG_180 - n);
-        Num {
-            minus: true,
-            size: c,
-        }
+    let minus = n > DEG_90;
+    Num {
+        minus,
+        size: cos_q(if minus { DEG_180 - n } else { n }),
     }
 }
 

@@ -1,17 +1,16 @@
 -- The ways out of `turn`: refused by question 1 or 2, refused by 8, accepted. Facts on lists alone, of rows whose ends were read (`ends_are`) and that were
 -- looked at (`seen`).
+use Rattle.std.specs.Prelude.{Option, None, Some}
 use mathlib.Core.Path.{◌≡◌, refl, sym, ap, ap₂, ◌∙◌, subst}
-use Prim.Native.Nat.{ℕ, zero, suc, ◌*◌, ◌/◌, ◌%◌, ◌≤◌, ◌<◌}
+use Prim.Native.Nat.{ℕ, ◌*◌, ◌≤◌, ◌<◌}
 use native.Mathlib.Omega.{arith}
 use native.Mathlib.Nat.{div-add-mod'}
-use mathlib.Core.Bool.{Bool, true, false, not, ◌&&◌}
-use mathlib.Core.Option.{Option, none, some}
-use mathlib.Core.List.{List, ◌++◌, map}
-use lib.Dec.{leb, eqb}
-use lib.ListN.{length, get_or, take, drop, replicate, length-append}
-use borrow.Author.Tests.{not-true, not-false}
+use mathlib.Core.Bool.{Bool, true, false, ◌&&◌}
+use mathlib.Core.List.{List, map}
+use lib.Dec.{leb}
+use lib.ListN.{length, get_or, replicate}
 use Rattle.table.specs.Machine as M
-use Rattle.table.specs.Rows.{Watch, zero_key}
+use Rattle.table.specs.Rows.{Watch}
 use Rattle.table.specs.Questions.{most, question1, question2, chain, chains_match, all_sound, find_row}
 use Rattle.table.proofs.Tests.{by_bool, clash, and_1, and_2, leb_true}
 use Rattle.table.proofs.Question2.{question_one}
@@ -21,47 +20,14 @@ use Rattle.scans.specs.declared.Key.{Key}
 use Rattle.rows.specs.declared.Row.{Row}
 use Rattle.scans.specs.declared.Ends.{Ends}
 use Rattle.scans.specs.declared.Look.{Look}
-use Rattle.rows.specs.Links.{blank}
 use Rattle.rows.specs.Read.{form, row_is, ends_of, ends_is, watch_of, watch_is, found_is, looked_in, Looked}
 use Rattle.scans.specs.Scan.{is_unfit, number_of}
 use Rattle.rows.proofs.Chains.{rows_long_lem}
-use Rattle.flat.specs.Words.{words_of_row, row_fits, row_of, junk, opened_of}
-use Rattle.flat.specs.Table.{rows_from, rows_of}
 use Rattle.turns.specs.declared.Turned.TheVariants.{Named}
 use Rattle.turns.specs.Turn.{start_of, named_by, named, is_in, is_used, keys_of, written, holds, next_of, question8, refusal, acceptance, turn_on, Tick}
-use Rattle.turns.specs.Passes.{mark_all, passed}
+use Rattle.turns.specs.Passes.{mark_all, passed, keys_long}
 use Rattle.turns.proofs.Numbers.{onward, start_below, onward_is}
 use Rattle.turns.proofs.Passes.{marks_tell, ahead, from_start, all_passed}
-use Rattle.packing.specs.Words.{bytes_of, key_of}
-
--- EVERY KEY HAS 32 BYTES
-bytes_long : (n w : ℕ) → length (bytes_of n w) ≡ n
-unfolding bytes_of
-bytes_long zero w = refl
-bytes_long (suc n) w = ap suc (bytes_long n (w / 256))
-
-key_of_long : (ws : List ℕ) → length (key_of ws) ≡ 32
-unfolding key_of
-key_of_long ws =
-    let a = bytes_of 8 (get_or ws 0 0) in
-    let b = bytes_of 8 (get_or ws 1 0) in
-    let c = bytes_of 8 (get_or ws 2 0) in
-    let d = bytes_of 8 (get_or ws 3 0) in
-    omega (arith, length-append a (b ++ (c ++ d)), length-append b (c ++ d), length-append c d, bytes_long 8 (get_or ws 0 0), bytes_long 8 (get_or ws 1 0), bytes_long 8 (get_or ws 2 0), bytes_long 8 (get_or ws 3 0))
-
-opened_long : (ws : List ℕ) → length (opened_of ws).key ≡ 32
-unfolding opened_of row_of junk zero_key
-opened_long ws = by_bool (row_fits ws) (λ p. rw p (key_of_long ws)) (λ p. rw p)
-
-rows_key : (n : ℕ) (ws : List ℕ) (i : ℕ) → length (get_or (rows_from n ws) i blank).key ≡ 32
-unfolding rows_from zero_key
-rows_key zero ws i = refl
-rows_key (suc n) ws zero = opened_long (take words_of_row ws)
-rows_key (suc n) ws (suc i) = rows_key n (drop words_of_row ws) i
-
-pub key_long : (ws : List ℕ) (i : ℕ) → length (get_or (rows_of ws) i blank).key ≡ 32
-unfolding rows_of zero_key
-key_long ws i = by_bool (eqb (length ws % words_of_row) 0) (λ p. rw p (rows_key (length ws / words_of_row) ws i)) (λ p. rw p)
 
 -- QUESTIONS 1 AND 2
 record Passed (w : Watch Part) : Type 0 where
@@ -69,16 +35,16 @@ record Passed (w : Watch Part) : Type 0 where
   two : question2 form w ≡ true
 
 found_fits : (o : Option ℕ) → is_unfit (found_is o) ≡ false
-found_fits none = refl
-found_fits (some i) = refl
+found_fits None = refl
+found_fits (Some i) = refl
 
 record Chained (o : Option (List ℕ)) : Type 0 where
   rows : List ℕ
-  is : o ≡ some rows
+  is : o ≡ Some rows
 
 chained : (w : Watch Part) (o f : Option (List ℕ)) → chains_match unmade_part w o f ≡ true → Chained o
-chained w none f h = clash h refl
-chained w (some l) f h = record { rows = l; is = refl }
+chained w None f h = clash h refl
+chained w (Some l) f h = record { rows = l; is = refl }
 
 used_chain : (w : Watch Part) → question2 form w ≡ true → Chained (chain unmade_part w.rows (length w.rows) w.ends.head)
 unfolding question2
@@ -139,17 +105,17 @@ module _ (xs : List Row) (ys ws : List ℕ) (e : Ends) (key : Key) (l : Look) (e
     unfolding most
     few = omega (arith, (question_one form w pass.one).at_most, all)
 
-    module _ (q r : Bool) (asked : (bytes : List ℕ) → length bytes ≡ length list → q ≡ question8 n k bytes) (other : r ≡ not q) where
+    module _ (q : Bool) (asked : (bytes : List ℕ) → length bytes ≡ length list → q ≡ question8 n k bytes) where
       eight : q ≡ question8 (length w.rows) k list
       eight = asked list refl ∙ ap (λ (m : ℕ). question8 m k list) all
 
       -- question 8
-      pub turn_eight : r ≡ true → refusal list 8 ≡ turn_on form (watch_is xs ys ws) next k list
-      turn_eight h = (let p = pass.one in let s = pass.two in let u : question8 (length w.rows) k list ≡ false = sym eight ∙ not-true q (sym other ∙ h) in rw (p, s, u)) ∙ same_watch
+      pub turn_eight : q ≡ false → refusal list 8 ≡ turn_on form (watch_is xs ys ws) next k list
+      turn_eight h = (let p = pass.one in let s = pass.two in let u : question8 (length w.rows) k list ≡ false = sym eight ∙ h in rw (p, s, u)) ∙ same_watch
 
-      module _ (h : r ≡ false) where
+      module _ (h : q ≡ true) where
         may : question8 (length w.rows) k list ≡ true
-        may = sym eight ∙ not-false q (sym other ∙ h)
+        may = sym eight ∙ h
 
         some_row : 0 < n
         some_row = omega (arith, (question_one form w pass.one).some_row, all)
@@ -175,7 +141,7 @@ module _ (xs : List Row) (ys ws : List ℕ) (e : Ends) (key : Key) (l : Look) (e
             accepted = let p = pass.one in let s = pass.two in let u = may in rw (p, s, u)
 
         -- the marks of the used chain tell the used rows
-        pub tells : (d : ℕ) (marks : List Bool) → d ≡ e.head → ((used : List ℕ) → chain unmade_part (map row_is xs) n d ≡ some used → marks ≡ mark_all used (replicate 4096 false)) → (i : ℕ) → i < n → get_or marks i false ≡ is_used form (watch_is xs ys ws) i
+        pub tells : (d : ℕ) (marks : List Bool) → d ≡ e.head → ((used : List ℕ) → chain unmade_part (map row_is xs) n d ≡ Some used → marks ≡ mark_all used (replicate 4096 false)) → (i : ℕ) → i < n → get_or marks i false ≡ is_used form (watch_is xs ys ws) i
         unfolding w
         tells d marks ed em i q =
             ap (λ (b : List Bool). get_or b i false) marked ∙ marks_tell used.rows i (omega (arith, few)) ∙ sym (ap (is_in i) used.is) ∙ ap (λ (z : Watch Part). is_used form z i) same
@@ -186,6 +152,6 @@ module _ (xs : List Row) (ys ws : List ℕ) (e : Ends) (key : Key) (l : Look) (e
             marked : marks ≡ mark_all used.rows (replicate 4096 false)
             marked = em used.rows (ap₂ {C = Option (List ℕ)} (λ m h. chain unmade_part (map row_is xs) m h) all ed ∙ used.is)
 
-        pub turn_passes : (long : (i : ℕ) → length (get_or xs i blank).key ≡ 32) (d s : ℕ) (marks : List Bool) (out : Tick) → d ≡ e.head → ((used : List ℕ) → chain unmade_part (map row_is xs) n d ≡ some used → marks ≡ mark_all used (replicate 4096 false)) → s ≡ start_of n next → out ≡ passed marks xs n k s 0 list → out ≡ turn_on form (watch_is xs ys ws) next k list
-        turn_passes long d s marks out ed em es eo =
-            eo ∙ all_passed (watch_is xs ys ws) n xs refl long marks (tells d marks ed em) k s list (first_row s es) room ∙ turn_ahead s es
+        pub turn_passes : (d s : ℕ) (marks : List Bool) (out : Tick) → d ≡ e.head → ((used : List ℕ) → chain unmade_part (map row_is xs) n d ≡ Some used → marks ≡ mark_all used (replicate 4096 false)) → s ≡ start_of n next → (out ≡ passed marks xs n k s 0 list) × keys_long marks xs n k s → out ≡ turn_on form (watch_is xs ys ws) next k list
+        turn_passes d s marks out ed em es eo =
+            eo.0 ∙ all_passed (watch_is xs ys ws) n xs refl marks (tells d marks ed em) k s list eo.1 (first_row s es) room ∙ turn_ahead s es

@@ -1,11 +1,11 @@
 -- One law for each way out of the code's functions, and for each turn of its loops. Facts on numbers and lists alone.
+use Rattle.std.specs.Prelude.{Option, None, Some}
 use mathlib.Core.Path.{◌≡◌, refl, sym, ap, ap₂, ◌∙◌}
 use mathlib.Core.Logic.{◌≢◌}
 use Prim.Native.Nat.{ℕ, zero, suc, ◌+◌, ◌-◌, ◌*◌, ◌/◌, ◌≤◌, ◌<◌}
 use native.Mathlib.Omega.{arith}
 use native.Mathlib.Numerals.{add-one}
 use mathlib.Core.Bool.{Bool, true, false, cond}
-use mathlib.Core.Option.{Option, none, some}
 use mathlib.Core.List.{List, [], ◌++◌, map, append_assoc}
 use lib.Dec.{leb, eqb}
 use lib.ListN.{length, get_or, set, take, drop}
@@ -54,12 +54,12 @@ module _ (n k bytes : ℕ) (list : List ℕ) (long : length list ≡ bytes) wher
 
 -- THE USED CHAIN MARKED: what is left of it has the same marks to set as the whole had
 abbrev pub marked : Option (List ℕ) → List Bool → Option (List Bool)
-marked none marks = none
-marked (some l) marks = some (mark_all l marks)
+marked None marks = None
+marked (Some l) marks = Some (mark_all l marks)
 
 marked_onto : (i : ℕ) (o : Option (List ℕ)) (marks : List Bool) → marked o (set marks i true) ≡ marked (onto i o) marks
-marked_onto i none marks = refl
-marked_onto i (some l) marks = refl
+marked_onto i None marks = refl
+marked_onto i (Some l) marks = refl
 
 -- a chain's rest, from row `at`, on `left` rows at most
 abbrev pub rest_of : List Row → ℕ → ℕ → Option (List ℕ)
@@ -88,27 +88,27 @@ module _ (xs : List Row) (n left at : ℕ) (marks : List Bool) (t : Bool) (long 
           ∙ sym (rw (ne_eqb at NONE (not_none (row_within h)), lt-ltb at (length (map row_is xs)) (omega (arith, rows_long_lem xs, row_within h))))
 
 -- the rest of a chain that goes on no more is empty, or it is none
-ended : (at : ℕ) (marks marks₀ : List Bool) (o : Option (List ℕ)) → marked (cond (eqb at NONE) (some []) none) marks ≡ marked o marks₀ → (used : List ℕ) → o ≡ some used → marks ≡ mark_all used marks₀
+ended : (at : ℕ) (marks marks₀ : List Bool) (o : Option (List ℕ)) → marked (cond (eqb at NONE) (Some []) None) marks ≡ marked o marks₀ → (used : List ℕ) → o ≡ Some used → marks ≡ mark_all used marks₀
 ended at marks marks₀ o e used h = by_bool (eqb at NONE) (λ p. so (rw p at e)) (λ p. no (rw p at e))
   where
-    whole : marked o marks₀ ≡ some (mark_all used marks₀)
+    whole : marked o marks₀ ≡ Some (mark_all used marks₀)
     whole = ap (λ (x : Option (List ℕ)). marked x marks₀) h
 
-    so : some marks ≡ marked o marks₀ → marks ≡ mark_all used marks₀
-    so q = let r : some marks ≡ some (mark_all used marks₀) = q ∙ whole in cc
+    so : Some marks ≡ marked o marks₀ → marks ≡ mark_all used marks₀
+    so q = let r : Some marks ≡ Some (mark_all used marks₀) = q ∙ whole in cc
 
-    no : none ≡ marked o marks₀ → marks ≡ mark_all used marks₀
-    no q = let r : none ≡ some (mark_all used marks₀) = q ∙ whole in let z : ◌≡◌ {A = ℕ} 0 1 = cc in absurd (omega arith)
+    no : None ≡ marked o marks₀ → marks ≡ mark_all used marks₀
+    no q = let r : None ≡ Some (mark_all used marks₀) = q ∙ whole in let z : ◌≡◌ {A = ℕ} 0 1 = cc in absurd (omega arith)
 
 module _ (xs : List Row) (n left at : ℕ) (marks marks₀ : List Bool) (head : ℕ) (inv : marked (rest_of xs left at) marks ≡ marked (rest_of xs n head) marks₀) where
-  pub mark_leaves : (t : Bool) → t ≡ leb (length xs) at → t ≡ true → (used : List ℕ) → rest_of xs n head ≡ some used → marks ≡ mark_all used marks₀
+  pub mark_leaves : (t : Bool) → t ≡ leb (length xs) at → t ≡ true → (used : List ℕ) → rest_of xs n head ≡ Some used → marks ≡ mark_all used marks₀
   mark_leaves t test out used e = ended at marks marks₀ (rest_of xs n head) (ap (λ (o : Option (List ℕ)). marked o marks) (sym (outside left)) ∙ inv) used e
     where
-      outside : (f : ℕ) → rest_of xs f at ≡ cond (eqb at NONE) (some []) none
+      outside : (f : ℕ) → rest_of xs f at ≡ cond (eqb at NONE) (Some []) None
       outside zero = refl
       outside (suc f) = rw (le-ltb at (length (map row_is xs)) (omega (arith, rows_long_lem xs, leb-true (length xs) at (sym test ∙ out))))
 
-  pub mark_ends : left ≤ 0 → (used : List ℕ) → rest_of xs n head ≡ some used → marks ≡ mark_all used marks₀
+  pub mark_ends : left ≤ 0 → (used : List ℕ) → rest_of xs n head ≡ Some used → marks ≡ mark_all used marks₀
   mark_ends h used e = ended at marks marks₀ (rest_of xs n head) (ap (λ (f : ℕ). marked (rest_of xs f at) marks) none_left ∙ inv) used e
     where
       none_left : 0 ≡ left
@@ -140,7 +140,7 @@ module _ (marks : List Bool) (xs : List Row) (n left at count : ℕ) (list : Lis
 
   pub pass_ends : (t : Tick) → left ≤ 0 → passed marks xs n left at count list ≡ t → record { answer = Named count at; list = list } ≡ t
   unfolding passed
-  pass_ends t h e = let none : 0 ≡ left = omega arith in ap (λ (f : ℕ). passed marks xs n f at count list) none ∙ e
+  pass_ends t h e = let None : 0 ≡ left = omega arith in ap (λ (f : ℕ). passed marks xs n f at count list) None ∙ e
 
 pub count_less : (used : Bool) (count : ℕ) → count_after used count ≤ count + 1
 count_less true count = omega arith

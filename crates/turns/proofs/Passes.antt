@@ -2,7 +2,7 @@
 -- what is ahead to what is given (`ahead_goes`): a pass over k rows writes their keys one after the other (`passed_is`), and it ends at the row after them.
 -- Over any list of rows: `ticks` cites them too.
 use mathlib.Core.Path.{◌≡◌, refl, sym, ap, ap₂, ◌∙◌, subst}
-use Prim.Native.Nat.{ℕ, zero, suc, ◌+◌, ◌*◌, ◌≤◌, ◌<◌}
+use Prim.Native.Nat.{ℕ, zero, suc, ◌+◌, ◌-◌, ◌*◌, ◌≤◌, ◌<◌}
 use native.Mathlib.Omega.{arith}
 use native.Mathlib.Nat.{zero-add}
 use mathlib.Core.Bool.{Bool, true, false, ◌||◌}
@@ -22,7 +22,7 @@ use Rattle.rows.specs.Read.{form, row_is}
 use Rattle.rows.proofs.Chains.{row_is_lem}
 use Rattle.turns.specs.declared.Turned.TheVariants.{Named}
 use Rattle.turns.specs.Turn.{following, named, is_used, keys_of, joined, written, Tick}
-use Rattle.turns.specs.Passes.{mark_all, count_after, list_after, passed}
+use Rattle.turns.specs.Passes.{mark_all, count_after, list_after, passed, keys_long}
 use Rattle.turns.proofs.Numbers.{onward, following_below}
 use Rattle.turns.proofs.Laws.{count_less, list_long}
 
@@ -123,24 +123,24 @@ none_ahead n next list =
 
 module _ (w : Watch Part) (C : ℕ) where
   -- a row is passed over: its key is given where it is used
-  pub ahead_goes : (k at n next : ℕ) (list key : List ℕ) (used : Bool) → used ≡ is_used form w at → key ≡ (row_at unmade_part w.rows at).key → length key ≡ 32 → 32 * suc n ≤ length list
+  pub ahead_goes : (k at n next : ℕ) (list key : List ℕ) (used : Bool) → used ≡ is_used form w at → key ≡ (row_at unmade_part w.rows at).key → (used ≡ true → length key ≡ 32) → 32 * suc n ≤ length list
       → ahead (count_after used n) (list_after used key n list) (keys_of form w (named C (following C at) k)) next ≡ ahead n list (keys_of form w (named C at (suc k))) next
   ahead_goes k at n next list key used eu ek has room =
       by_bool (is_used form w at)
-      (λ p. rw (eu, p, sym ek) (more_keys n next key (keys_of form w (named C (following C at) k)) list has room))
+      (λ p. rw (eu, p, sym ek) (more_keys n next key (keys_of form w (named C (following C at) k)) list (has (eu ∙ p)) room))
       (λ p. rw (eu, p))
 
   -- THE KEYS OF k ROWS, one after the other
-  module _ (xs : List Row) (rows_are : w.rows ≡ map row_is xs) (long : (i : ℕ) → length (get_or xs i blank).key ≡ 32) (marks : List Bool) (tells : (i : ℕ) → i < C → get_or marks i false ≡ is_used form w i) where
+  module _ (xs : List Row) (rows_are : w.rows ≡ map row_is xs) (marks : List Bool) (tells : (i : ℕ) → i < C → get_or marks i false ≡ is_used form w i) where
     key_is_lem : (i : ℕ) → (row_at unmade_part w.rows i).key ≡ (get_or xs i blank).key
     key_is_lem i = ap {B = Key} (λ rs. (row_at unmade_part rs i).key) rows_are ∙ ap {B = Key} (λ r. r.key) (row_is_lem xs i)
 
-    passed_is : (k at n : ℕ) (list : List ℕ) → at < C → 32 * (n + k) ≤ length list → passed marks xs C k at n list ≡ ahead n list (keys_of form w (named C at k)) (onward C k at)
+    passed_is : (k at n : ℕ) (list : List ℕ) → keys_long marks xs C k at → at < C → 32 * (n + k) ≤ length list → passed marks xs C k at n list ≡ ahead n list (keys_of form w (named C at k)) (onward C k at)
     unfolding passed
-    passed_is zero at n list h room = sym (none_ahead n at list)
-    passed_is (suc k) at n list h room =
-        passed_is k (following C at) (count_after used n) (list_after used key n list) (following_below C at h) (omega (arith, count_less used n, list_long used key n list))
-        ∙ ahead_goes k at n (onward C k (following C at)) list key used (tells at h) (sym (key_is_lem at)) (long at) (omega arith)
+    passed_is zero at n list long h room = sym (none_ahead n at list)
+    passed_is (suc k) at n list long h room =
+        passed_is k (following C at) (count_after used n) (list_after used key n list) long.1 (following_below C at h) (omega (arith, count_less used n, list_long used key n list))
+        ∙ ahead_goes k at n (onward C k (following C at)) list key used (tells at h) (sym (key_is_lem at)) long.0 (omega arith)
       where
         used : Bool
         used = get_or marks at false
@@ -149,5 +149,18 @@ module _ (w : Watch Part) (C : ℕ) where
         key = (get_or xs at blank).key
 
     -- from the start of the list
-    pub all_passed : (k at : ℕ) (list : List ℕ) → at < C → 32 * k ≤ length list → passed marks xs C k at 0 list ≡ ahead 0 list (keys_of form w (named C at k)) (onward C k at)
-    all_passed k at list h room = passed_is k at 0 list h (omega arith)
+    pub all_passed : (k at : ℕ) (list : List ℕ) → keys_long marks xs C k at → at < C → 32 * k ≤ length list → passed marks xs C k at 0 list ≡ ahead 0 list (keys_of form w (named C at k)) (onward C k at)
+    all_passed k at list long h room = passed_is k at 0 list long h (omega arith)
+
+-- one row before them
+pub long_goes :
+    (marks : List Bool) (rows : List Row) (C k at next : ℕ) → 0 < k → next ≡ following C at → (get_or marks at false ≡ true → length (get_or rows at blank).key ≡ 32)
+    → keys_long marks rows C (k - 1) next → keys_long marks rows C k at
+long_goes marks rows C zero at next more e key later = absurd (omega arith)
+long_goes marks rows C (suc k) at next more e key later =
+    let left : suc k - 1 ≡ k = omega arith in
+    (key, subst (keys_long marks rows C k) e (subst (λ (j : ℕ). keys_long marks rows C j next) left later))
+
+pub no_key_left : (marks : List Bool) (rows : List Row) (C k at : ℕ) → k ≤ 0 → keys_long marks rows C k at
+no_key_left marks rows C zero at none = tt
+no_key_left marks rows C (suc k) at none = absurd (omega arith)

@@ -1,5 +1,5 @@
 -- The code's two passes: along the used chain, marking its rows, and over the rows that a tick names. Definitions only; proofs/Passes shows them to come to `turn_on`.
-use Rattle.std.specs.Prelude.{ℕ, zero, suc, ◌*◌, Bool, true, false, cond, List, [], ◌∷◌, get_or, set}
+use Rattle.std.specs.Prelude.{◌≡◌, ℕ, zero, suc, ◌*◌, Bool, true, false, cond, List, [], ◌∷◌, get_or, set, length}
 use Rattle.std.proofs.lemmas.List.Edits.{sets}
 use Rattle.table.specs.Machine.{Key}
 use Rattle.rows.specs.declared.Row.{Row}
@@ -25,3 +25,8 @@ passed marks rows C zero at n list = record { answer = Named n at; list = list }
 passed marks rows C (suc k) at n list =
     let used = get_or marks at false in
     passed marks rows C k (following C at) (count_after used n) (list_after used (get_or rows at blank).key n list)
+
+-- the key of each marked row among k from number `at` on has 32 bytes
+abbrev pub keys_long : List Bool → List Row → ℕ → ℕ → ℕ → Type 0
+keys_long marks rows C zero at = Unit {0}
+keys_long marks rows C (suc k) at = (get_or marks at false ≡ true → length (get_or rows at blank).key ≡ 32) × keys_long marks rows C k (following C at)

@@ -1,6 +1,5 @@
 -- The turn keeper (02, 'Item 1. Turns for the half-hour round'): one tick, for any lent watch. Definitions only; what a row holds is a parameter, as in `table`.
-use Rattle.std.specs.Prelude.{ℕ, zero, suc, ◌+◌, ◌/◌, ◌%◌, Bool, false, cond, ◌&&◌, List, [], ◌∷◌, ◌++◌, leb, ltb, eqb, length, drop}
-use Rattle.std.proofs.Math.Option.{Option, none, some}
+use Rattle.std.specs.Prelude.{ℕ, zero, suc, ◌+◌, ◌/◌, ◌%◌, Bool, false, cond, ◌&&◌, List, [], ◌∷◌, ◌++◌, leb, ltb, eqb, length, drop, Option, None, Some}
 use Rattle.table.specs.Machine.{Key}
 use Rattle.table.specs.Rows.{Watch, Form, row_at}
 use Rattle.table.specs.Questions.{question1, question2, chain, among}
@@ -26,8 +25,8 @@ named_by C next k = named C (start_of C next) k
 
 -- "and gives the keys of the used ones, in that order": those in the used chain
 abbrev pub is_in : ℕ → Option (List ℕ) → Bool
-is_in i none = false
-is_in i (some l) = among i l
+is_in i None = false
+is_in i (Some l) = among i l
 
 abbrev pub is_used : {P : Type 0} → Form P → Watch P → ℕ → Bool
 is_used F w i = is_in i (chain F.unmade w.rows (length w.rows) w.ends.head)

@@ -2,3 +2,4 @@
 pub mod Lines
 pub mod Replays
 pub mod Print
+pub mod Runs

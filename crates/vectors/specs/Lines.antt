@@ -1,13 +1,11 @@
 -- What a line of the list says. Definitions only.
-use Rattle.std.specs.Prelude.{ℕ, zero, suc, ◌+◌, ◌-◌, ◌^◌, Bool, true, false, cond, ◌&&◌, List, length, pos, ◌==◌}
+use Rattle.std.specs.Prelude.{ℕ, zero, suc, ◌+◌, ◌-◌, ◌^◌, cond, ◌&&◌, List, length, ◌==◌, nat_lt, Some, None, Option, Ok, Err, Result, ℤ, ⊤, unwrap_or}
+use Rattle.std.specs.Option.{option_and}
 use Rattle.fields.specs.Text.{spell, first_of, part_of, same_bytes}
 use Rattle.numbers.specs.Numbers.{whole_of, signed_of}
-use Rattle.numbers.specs.declared.Number.{Number}
-use Rattle.numbers.specs.declared.Number.TheVariants as number
-use Rattle.numbers.specs.declared.Signed.{Signed}
-use Rattle.numbers.specs.declared.Signed.TheVariants as signed
-use Rattle.vectors.specs.declared.read.Whole.{Whole}
-use Rattle.vectors.specs.declared.read.Metres.{Metres}
+use Rattle.probes.specs.Judged.{without_degrees}
+use Rattle.vectors.specs.declared.read.Unread.{Unread}
+use Rattle.vectors.specs.declared.read.Setting.{Setting}
 use Rattle.vectors.specs.declared.read.Row.{Row}
 
 -- words are separated by single spaces (32)
@@ -22,37 +20,55 @@ unfoldable pub word_of : ℕ → List ℕ → List ℕ
 word_of zero t = first_word t
 word_of (suc k) t = word_of k (rest_words t)
 
-abbrev pub ended_at : ℕ → List ℕ → Bool
-ended_at k t = length (word_of k t) == 0
+-- what cannot be read, and what is read on from what was
+abbrev pub Said : Type 0 → Type 0
+Said A = Result A Unread
 
--- a whole number, or `-` (45) for none: a tag of 0
-abbrev pub whole_by : Number → Whole
-whole_by (number.Is n) = record { tag = 1; n = n; good = true }
-whole_by number.Bad = record { tag = 1; n = 0; good = false }
+abbrev pub unread : {A : Type 0} → Said A
+unread = Err (record {})
 
-unfoldable pub whole_in : List ℕ → Whole
-whole_in s = cond (same_bytes s (spell "-")) (record { tag = 0; n = 0; good = true }) (whole_by (whole_of (2 ^ 64 - 1) s))
+abbrev pub and_then : {A B : Type 0} → Said A → (A → Said B) → Said B
+and_then (Ok x) f = f x
+and_then (Err e) f = Err e
 
-abbrev pub metres_by : Signed → Metres
-metres_by (signed.Is m) = record { tag = 1; m = m; good = true }
-metres_by signed.Bad = record { tag = 1; m = pos 0; good = false }
+-- a word that was read as a number, or `-` (45) for none
+abbrev pub number_read : {A : Type 0} → Option A → Said (Option A)
+number_read (Some n) = Ok (Some n)
+number_read None = unread
 
-unfoldable pub metres_in : List ℕ → Metres
-metres_in s = cond (same_bytes s (spell "-")) (record { tag = 0; m = pos 0; good = true }) (metres_by (signed_of s))
+unfoldable pub noted : {A : Type 0} → List ℕ → Option A → Said (Option A)
+noted s read = cond (same_bytes s (spell "-")) (Ok None) (number_read read)
+
+abbrev pub whole_in : List ℕ → Said (Option ℕ)
+whole_in s = noted s (whole_of (2 ^ 64 - 1) s)
+
+abbrev pub metres_in : List ℕ → Said (Option ℤ)
+metres_in s = noted s (signed_of s)
+
+-- where a number is needed, none is 0
+abbrev pub number_in : List ℕ → Said ℕ
+number_in s = and_then (whole_in s) (λ n. Ok (unwrap_or n 0))
+
+-- a line has no more words than it should
+abbrev pub ended : List ℕ → Said ⊤
+ended s = cond (length s == 0) (Ok tt) unread
+
+-- cell I WORD, and no more: one of 3,344 cells, and 32 bits
+abbrev pub cell_of : List ℕ → Said Setting
+cell_of t =
+    and_then (number_in (word_of 1 t)) (λ at.
+    and_then (number_in (word_of 2 t)) (λ w.
+    and_then (ended (word_of 3 t)) (λ end. cond (nat_lt at 3344 && nat_lt w 4294967296) (Ok (record { at = at; word = w })) unread)))
 
 -- judging EVEN ODD SITE ALT NOW_MS AIRCRAFT ANSWER, and no more
-abbrev pub row_of : List ℕ → Row
+abbrev pub row_of : List ℕ → Said Row
 row_of t =
-    record {
-      even = whole_in (word_of 1 t);
-      odd = whole_in (word_of 2 t);
-      site = whole_in (word_of 3 t);
-      alt = metres_in (word_of 4 t);
-      now_ms = whole_in (word_of 5 t);
-      aircraft = whole_in (word_of 6 t);
-      answer = whole_in (word_of 7 t);
-      ended = ended_at 8 t;
-    }
-
-abbrev pub readable_row : Row → Bool
-readable_row r = ((r.even.good && r.odd.good) && (r.site.good && r.alt.good)) && ((r.now_ms.good && r.aircraft.good) && (r.answer.good && r.ended))
+    and_then (whole_in (word_of 1 t)) (λ even.
+    and_then (whole_in (word_of 2 t)) (λ odd.
+    and_then (whole_in (word_of 3 t)) (λ site.
+    and_then (metres_in (word_of 4 t)) (λ alt.
+    and_then (number_in (word_of 5 t)) (λ now.
+    and_then (number_in (word_of 6 t)) (λ aircraft.
+    and_then (number_in (word_of 7 t)) (λ answer.
+    and_then (ended (word_of 8 t)) (λ end.
+    Ok (record { even = even; odd = odd; site = option_and site (Some (without_degrees alt)); now_ms = now; aircraft = aircraft; answer = answer })))))))))

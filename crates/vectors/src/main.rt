@@ -5,14 +5,14 @@ mod read;
 mod replay;
 mod write;
 
-use lines::{Sink, Source};
+use lines::{Lines, Sink, Source};
 use std::io;
 
 fn main(rt: HostRuntime) -> io::Result<()> {
-    let mut from = Source::new(rt.stdin());
     let mut to = Sink::new(rt.stdout());
     let mut buf = [0u8; 65536];
-    replay::run(&mut from, &mut to, &mut buf);
-    from.end()?;
+    let mut list = Lines::new(Source::new(rt.stdin()), &mut buf);
+    replay::run(&mut list, &mut to);
+    list.end()?;
     to.end()
 }

@@ -1,145 +1,158 @@
 // The words of a line, and what a vector's words say.
-ghost use Rattle.std.specs.Prelude.{◌≡◌, ◌&&◌};
-ghost use Rattle.vectors.specs.Lines.{first_word, rest_words, word_of, ended_at, whole_in, metres_in, row_of, readable_row};
+ghost use Rattle.std.specs.Prelude.{◌≡◌, ◌<◌, IfOk};
+ghost use Rattle.vectors.specs.Lines.{first_word, rest_words, noted, whole_in, number_in, metres_in, ended, word_of, cell_of, row_of};
 
-use numbers::{Number, Signed};
+use probes::row;
+use sites::Site;
 
-// A whole number, or `-` for none: a tag of 0.
+// A line that cannot be read.
 #[derive(Clone, Copy)]
-pub struct Whole {
-    pub tag: u8,
-    pub n: u64,
-    pub good: bool,
-}
+pub struct Unread;
 
-// An altitude, or `-` for none.
+// What a line sets a cell to.
 #[derive(Clone, Copy)]
-pub struct Metres {
-    pub tag: u8,
-    pub m: i32,
-    pub good: bool,
+pub struct Setting {
+    pub at: usize,
+    pub word: u32,
 }
 
 // What is judged beside the cells, and the stored answer.
 #[derive(Clone, Copy)]
 pub struct Row {
-    pub even: Whole,
-    pub odd: Whole,
-    pub site: Whole,
-    pub alt: Metres,
-    pub now_ms: Whole,
-    pub aircraft: Whole,
-    pub answer: Whole,
-    pub ended: bool,
+    pub even: Option<u64>,
+    pub odd: Option<u64>,
+    pub site: Option<Site>,
+    pub now_ms: u64,
+    pub aircraft: u64,
+    pub answer: u64,
 }
 
-// The first word of a line, and what follows the space behind it.
-fn first(t: &[u8]) -> &[u8]
-    ensures { result.now ≡ first_word t.now }
-{
-    fields::part(t, 0, fields::find(t, b' '))
+// The words of a line that were not taken yet. They are separated by single spaces; past the last one they are empty.
+#[derive(Clone, Copy)]
+struct Words<'a> {
+    rest: &'a [u8],
 }
 
-fn rest(t: &[u8]) -> &[u8]
-    ensures { result.now ≡ rest_words t.now }
+// A number that was read, or `-` for none.
+#[tactic(auto, unfolding(crate::specs::Lines::noted))]
+fn noted<T: Copy>(word: &[u8], read: Option<T>) -> Result<Option<T>, Unread>
+    ensures { result ≡ noted word.now read }
 {
-    fields::part(t, fields::find(t, b' ') + 1, t.len())
-}
-
-// Word k of a line, empty where it has no such word.
-pub fn word(t: &[u8], k: usize) -> &[u8]
-    ensures { result.now ≡ word_of k t.now }
-{
-    if k == 0 {
-        return first(t);
+    if fields::same(word, b"-") {
+        return Ok(None);
     }
-    word(rest(t), k - 1)
-}
-
-// Whether a line has no word k.
-pub fn ended(t: &[u8], k: usize) -> bool
-    ensures { result ≡ ended_at k t.now }
-{
-    word(t, k).len() == 0
-}
-
-pub fn both(a: bool, b: bool) -> bool
-    ensures { result ≡ (a && b) }
-{
-    if a { b } else { false }
-}
-
-pub fn whole_in(s: &[u8]) -> Whole
-    ensures { result ≡ whole_in s.now }
-{
-    if fields::same(s, b"-") {
-        return Whole {
-            tag: 0,
-            n: 0,
-            good: true,
-        };
-    }
-    match numbers::read_whole(s, u64::MAX) {
-        Number::Is(n) => Whole {
-            tag: 1,
-            n,
-            good: true,
-        },
-        Number::Bad => Whole {
-            tag: 1,
-            n: 0,
-            good: false,
-        },
+    match read {
+        Some(n) => Ok(Some(n)),
+        None => Err(Unread),
     }
 }
 
-fn metres_in(s: &[u8]) -> Metres
-    ensures { result ≡ metres_in s.now }
+fn whole_in(word: &[u8]) -> Result<Option<u64>, Unread>
+    ensures { result ≡ whole_in word.now }
 {
-    if fields::same(s, b"-") {
-        return Metres {
-            tag: 0,
-            m: 0,
-            good: true,
-        };
+    noted(word, numbers::read_whole(word, u64::MAX))
+}
+
+fn metres_in(word: &[u8]) -> Result<Option<i32>, Unread>
+    ensures { result ≡ metres_in word.now }
+{
+    noted(word, numbers::read_signed(word))
+}
+
+impl<'a> Words<'a> {
+    fn of(line: &'a [u8]) -> Words<'a>
+        ensures { result.rest.now ≡ line.now }
+    {
+        Words { rest: line }
     }
-    match numbers::read_signed(s) {
-        Signed::Is(m) => Metres {
-            tag: 1,
-            m,
-            good: true,
-        },
-        Signed::Bad => Metres {
-            tag: 1,
-            m: 0,
-            good: false,
-        },
+
+    #[tactic(auto, using(fields::proofs::Lines::find_le))]
+    fn next(&mut self) -> &'a [u8]
+        ensures word { result.now ≡ first_word self.old.rest.now }
+        ensures rest { self.new.rest.now ≡ rest_words self.old.rest.now }
+    {
+        let line = self.rest;
+        let space = fields::find(line, b' ');
+        self.rest = fields::part(line, space + 1, line.len());
+        fields::part(line, 0, space)
+    }
+
+    fn whole(&mut self) -> Result<Option<u64>, Unread>
+        ensures word { result ≡ whole_in (first_word self.old.rest.now) }
+        ensures rest { self.new.rest.now ≡ rest_words self.old.rest.now }
+    {
+        whole_in(self.next())
+    }
+
+    // A number, where `-` stands for 0.
+    fn number(&mut self) -> Result<u64, Unread>
+        ensures word { result ≡ number_in (first_word self.old.rest.now) }
+        ensures rest { self.new.rest.now ≡ rest_words self.old.rest.now }
+    {
+        Ok(self.whole()?.unwrap_or(0))
+    }
+
+    // No word is left.
+    fn end(&mut self) -> Result<(), Unread>
+        ensures { result ≡ ended (first_word self.old.rest.now) }
+    {
+        if self.next().len() == 0 {
+            Ok(())
+        } else {
+            Err(Unread)
+        }
     }
 }
 
-// judging EVEN ODD SITE ALT NOW_MS AIRCRAFT ANSWER
-pub fn row_in(t: &[u8]) -> Row
+// The first word of a line, which says what it is.
+#[tactic(auto, unfolding(crate::specs::Lines::word_of))]
+pub fn first(t: &[u8]) -> &[u8]
+    ensures { result.now ≡ word_of 0 t.now }
+{
+    Words::of(t).next()
+}
+
+// cell I WORD, and no more
+#[tactic(auto, unfolding(crate::specs::Lines::word_of))]
+pub fn cell_in(t: &[u8]) -> Result<Setting, Unread>
+    ensures is { result ≡ cell_of t.now }
+    ensures inside { IfOk result (λ s. s.at < 3344) }
+{
+    let mut words = Words::of(t);
+    words.next();
+    let at = words.number()?;
+    let word = words.number()?;
+    words.end()?;
+    if at >= 3344 || word >= 4294967296 {
+        return Err(Unread);
+    }
+    Ok(Setting {
+        at: at as usize,
+        word: word as u32,
+    })
+}
+
+// judging EVEN ODD SITE ALT NOW_MS AIRCRAFT ANSWER, and no more
+#[tactic(auto, unfolding(crate::specs::Lines::word_of))]
+pub fn row_in(t: &[u8]) -> Result<Row, Unread>
     ensures { result ≡ row_of t.now }
 {
-    Row {
-        even: whole_in(word(t, 1)),
-        odd: whole_in(word(t, 2)),
-        site: whole_in(word(t, 3)),
-        alt: metres_in(word(t, 4)),
-        now_ms: whole_in(word(t, 5)),
-        aircraft: whole_in(word(t, 6)),
-        answer: whole_in(word(t, 7)),
-        ended: ended(t, 8),
-    }
-}
-
-// Whether every word of a row was read, and there is none left.
-pub fn readable(r: Row) -> bool
-    ensures { result ≡ readable_row r }
-{
-    let ids = both(r.even.good, r.odd.good);
-    let site = both(r.site.good, r.alt.good);
-    let heard = both(r.now_ms.good, r.aircraft.good);
-    let end = both(r.answer.good, r.ended);
-    both(both(ids, site), both(heard, end))
+    let mut words = Words::of(t);
+    words.next();
+    let even = words.whole()?;
+    let odd = words.whole()?;
+    let site = words.whole()?;
+    let alt_m = metres_in(words.next())?;
+    let now_ms = words.number()?;
+    let aircraft = words.number()?;
+    let answer = words.number()?;
+    words.end()?;
+    Ok(Row {
+        even,
+        odd,
+        site: site.and(Some(row::without_degrees(alt_m))),
+        now_ms,
+        aircraft,
+        answer,
+    })
 }

@@ -13,7 +13,7 @@ use lines::Sink;
 use print::{put, put_decimal};
 use std::io::Write;
 
-// A number and what it counts.
+// A number and what it counts. There is no heap, so a row is put together in a buffer that is lent.
 fn put_count(out: &mut [u8], at: usize, n: u64, what: &[u8]) -> usize
     ensures { Put out.old at (count_text n what.now) out.new result }
 {
@@ -39,7 +39,7 @@ pub fn show<W: Write>(to: &mut Sink<W>, c: Counts, t: &[u8]) -> usize
     ensures kept { same_bytes (word_of 0 t.now) word_count ≡ false → to.new ≡ to.old }
     ensures failed { sink_failed to.old ≡ true → to.new ≡ to.old }
 {
-    if fields::same(read::word(t, 0), b"count") {
+    if fields::same(read::first(t), b"count") {
         let mut out = [0u8; 2048];
         let n = put_counts(&mut out, c, fields::part(t, 6, t.len()));
         to.write(fields::part(&out, 0, n));

@@ -1,16 +1,10 @@
 -- A row's verdict (01, 'Verdict and run'), and when it may be judged again (02, Item 3). Definitions only.
-use Rattle.std.specs.Prelude.{ℕ, ◌+◌, ◌%◌, min, Bool, true, false, cond, ◌&&◌, ◌||◌, eqb, leb, ltb}
+use Rattle.std.specs.Prelude.{ℕ, ◌+◌, ◌%◌, min, Bool, true, false, cond, ◌&&◌, ◌||◌, eqb, leb, ltb, Some, None, Option}
 use Rattle.near_field.specs.declared.Judgment.{Judgment}
 use Rattle.near_field.specs.declared.Judgment.TheVariants as Found
 use Rattle.verdicts.specs.declared.Last.{Last}
 use Rattle.verdicts.specs.declared.Last.TheVariants.{Unjudged, Fits, Wrong}
-use Rattle.verdicts.specs.declared.WrongBy.{WrongBy}
-use Rattle.verdicts.specs.declared.WrongBy.TheVariants.{Km, Nothing}
 use Rattle.verdicts.specs.declared.Verdict.{Verdict}
-use Rattle.verdicts.specs.declared.Judged.{Judged}
-use Rattle.verdicts.specs.declared.Judged.TheVariants.{With, Never}
-use Rattle.verdicts.specs.declared.JudgedAt.{JudgedAt}
-use Rattle.verdicts.specs.declared.JudgedAt.TheVariants as Kept
 use Rattle.verdicts.specs.declared.CheckState.{CheckState}
 use Rattle.verdicts.specs.declared.CheckState.TheVariants as Says
 
@@ -18,9 +12,9 @@ use Rattle.verdicts.specs.declared.CheckState.TheVariants as Says
 abbrev pub up : ℕ → ℕ
 up n = min 255 (n + 1)
 
-abbrev pub is_held : WrongBy → Bool
-is_held (Km d) = true
-is_held Nothing = false
+abbrev pub is_held : Option ℕ → Bool
+is_held (Some d) = true
+is_held None = false
 
 -- A Wrong adds to the first count and zeroes the second; with three reached, or a distance held, its distance is held.
 unfoldable pub wrongly : Verdict → ℕ → Verdict
@@ -28,7 +22,7 @@ wrongly v d = record {
   last = Wrong;
   wrong_run = up v.wrong_run;
   other_run = 0;
-  wrong_by = cond (leb 3 (up v.wrong_run) || is_held v.wrong_by) (Km d) Nothing;
+  wrong_by = cond (leb 3 (up v.wrong_run) || is_held v.wrong_by) (Some d) None;
   moved = false;
 }
 
@@ -38,7 +32,7 @@ otherwise v l = record {
   last = l;
   wrong_run = 0;
   other_run = up v.other_run;
-  wrong_by = cond (leb 3 (up v.other_run)) Nothing v.wrong_by;
+  wrong_by = cond (leb 3 (up v.other_run)) None v.wrong_by;
   moved = false;
 }
 
@@ -50,26 +44,26 @@ judged_once v Found.Unjudged = otherwise v Unjudged
 
 -- A run begins, counts 0 and no distance held,
 abbrev pub begun : Verdict
-begun = record { last = Unjudged; wrong_run = 0; other_run = 0; wrong_by = Nothing; moved = false }
+begun = record { last = Unjudged; wrong_run = 0; other_run = 0; wrong_by = None; moved = false }
 
 -- with the first judging after the row was made or moved.
-abbrev pub goes_on : Judged → Verdict
-goes_on Never = begun
-goes_on (With v) = cond v.moved begun v
+abbrev pub goes_on : Option Verdict → Verdict
+goes_on None = begun
+goes_on (Some v) = cond v.moved begun v
 
-abbrev pub judged_next : Judged → Judgment → Judged
-judged_next v j = With (judged_once (goes_on v) j)
+abbrev pub judged_next : Option Verdict → Judgment → Option Verdict
+judged_next v j = Some (judged_once (goes_on v) j)
 
 -- (02, Item 3) A judging earlier than the last accepted one's now_ms plus 1,800,000 ms is turned down, a clock gone back included. Where none is kept, no judging
 -- is too soon.
-abbrev pub too_soon : JudgedAt → ℕ → Bool
-too_soon (Kept.At ms) now = ltb now (ms + 1800000)
-too_soon Kept.Never now = false
+abbrev pub too_soon : Option ℕ → ℕ → Bool
+too_soon (Some ms) now = ltb now (ms + 1800000)
+too_soon None now = false
 
 -- a move has ended the run
-abbrev pub run_ended : Judged → Judged
-run_ended Never = Never
-run_ended (With v) = With (record { last = v.last; wrong_run = v.wrong_run; other_run = v.other_run; wrong_by = v.wrong_by; moved = true })
+abbrev pub run_ended : Option Verdict → Option Verdict
+run_ended None = None
+run_ended (Some v) = Some (record { last = v.last; wrong_run = v.wrong_run; other_run = v.other_run; wrong_by = v.wrong_by; moved = true })
 
 -- Check says wrong, with the distance, when one is held, else fits if the last judging was Fits, else unjudged.
 abbrev pub plainly : Last → CheckState
@@ -77,9 +71,9 @@ plainly Fits = Says.Fits
 plainly Unjudged = Says.Unjudged
 plainly Wrong = Says.Unjudged
 
-abbrev pub says_by : WrongBy → Last → CheckState
-says_by (Km d) l = Says.Wrong d
-says_by Nothing l = plainly l
+abbrev pub says_by : Option ℕ → Last → CheckState
+says_by (Some d) l = Says.Wrong d
+says_by None l = plainly l
 
 abbrev pub says_verdict : Verdict → CheckState
 says_verdict v = says_by v.wrong_by v.last
@@ -88,10 +82,10 @@ says_verdict v = says_by v.wrong_by v.last
 abbrev pub step_of5 : ℕ → Bool
 step_of5 d = eqb (d % 5) 0 && (leb 5 d && leb d 800)
 
-abbrev pub by_fits : WrongBy → Bool
-by_fits (Km d) = step_of5 d
-by_fits Nothing = true
+abbrev pub by_fits : Option ℕ → Bool
+by_fits (Some d) = step_of5 d
+by_fits None = true
 
-abbrev pub verdict_fits : Judged → Bool
-verdict_fits Never = true
-verdict_fits (With v) = by_fits v.wrong_by
+abbrev pub verdict_fits : Option Verdict → Bool
+verdict_fits None = true
+verdict_fits (Some v) = by_fits v.wrong_by

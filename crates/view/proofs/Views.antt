@@ -1,18 +1,20 @@
 -- What the merged grid and bins hold, and how many positions the bins can have. Assumes nothing.
-use mathlib.Core.Path.{◌≡◌, refl, sym, ap, ◌∙◌}
+use mathlib.Core.Path.{◌≡◌, refl, sym, ap, ap₂, ◌∙◌}
 use mathlib.Core.Bool.{Bool, true, false, ◌&&◌, ◌||◌, cond}
 use mathlib.Core.List.{List}
-use Prim.Native.Nat.{ℕ, zero, suc, ◌+◌, ◌*◌, ◌^◌, ◌≤◌, ◌<◌}
+use Prim.Native.Nat.{ℕ, zero, suc, ◌+◌, ◌-◌, ◌*◌, ◌^◌, ◌≤◌, ◌<◌}
 use native.Mathlib.Nat.{zero-add}
 use native.Mathlib.Omega.{arith}
 use lib.Bits.{bit_or}
 use lib.ListN.{length, get_or}
-use Rattle.cells.specs.Cells.{count_of, empty_word, occupied_word}
-use Rattle.cells.specs.Passes.{pass, sum_of, some}
-use Rattle.cells.proofs.Passes.{some_turn, some_same, some_none, some_not, some_or, some_and, table_length, table_at}
+use Rattle.std.proofs.Common.{take, drop, length-drop, length-take, slice_range}
+use Rattle.std.proofs.lemmas.List.{get_or-take, get_or-drop}
+use Rattle.cells.specs.Cells.{empty_word, occupied_word}
+use Rattle.cells.specs.Passes.{pass, some, table}
+use Rattle.cells.proofs.Passes.{some_turn, some_same, some_none, some_not, some_or, some_and, table_length, table_at, table_same}
 use Rattle.cells.proofs.Words.{count_small, zero_free, empty_count, empty_fits, empty_merged, merged_empty, merged_occupied, both_occupied}
 use Rattle.view.specs.declared.Far.{Far}
-use Rattle.view.specs.View.{merged_of, merged_at, grid_of, heard_in, Unheard, heard_at, bins_of, positions_of, far_of}
+use Rattle.view.specs.View.{merged_of, merged_at, grid_of, heard_in, Unheard, heard_word, heard_at, bins_of, positions_of, positions_among, far_of}
 
 module _ (cells : List ℕ) (even odd : Bool) where
   pub grid_length : length (grid_of cells even odd) ≡ 1600
@@ -70,30 +72,49 @@ pub unheard : (grid : List ℕ) → heard_in grid ≡ false → Unheard grid
 unfolding heard_in
 unheard grid e i l = some_not (λ (j : ℕ). occupied_word (get_or grid j 0)) 1600 e i l
 
--- the loop over a half, at its start and in a turn
-pub none_yet : (words : List ℕ) (start : ℕ) → occupied_word 0 ≡ some (heard_at words start) 0
-none_yet words start = zero_free ∙ sym (some_none (heard_at words start) 0 (λ i l. absurd (omega arith)))
+-- the loop over some words, at its start and in a turn
+pub none_yet : (words : List ℕ) → occupied_word 0 ≡ some (heard_word words) 0
+none_yet words = zero_free ∙ sym (some_none (heard_word words) 0 (λ i l. absurd (omega arith)))
 
-pub one_more_lem : (words : List ℕ) (start i all w : ℕ) → occupied_word all ≡ some (heard_at words start) i → w ≡ get_or words (start + i) 0 → occupied_word (bit_or all w) ≡ some (heard_at words start) (i + 1)
-one_more_lem words start i all w e h =
-    both_occupied all w ∙ ap (λ (b : Bool). b || occupied_word w) e ∙ ap (λ (v : ℕ). some (heard_at words start) i || occupied_word v) h
-    ∙ sym (some_turn (heard_at words start) i)
+pub one_more_lem : (words : List ℕ) (i all w : ℕ) → occupied_word all ≡ some (heard_word words) i → w ≡ get_or words i 0 → occupied_word (bit_or all w) ≡ some (heard_word words) (i + 1)
+one_more_lem words i all w e h =
+    both_occupied all w ∙ ap (λ (b : Bool). b || occupied_word w) e ∙ ap (λ (v : ℕ). some (heard_word words) i || occupied_word v) h
+    ∙ sym (some_turn (heard_word words) i)
 
--- 72 counts of at most 255
-pub some_small : (bins : List ℕ) (n : ℕ) → sum_of (λ (j : ℕ). true) (λ (j : ℕ). count_of (get_or bins j 0)) n ≤ 255 * n
-unfolding pass
-some_small bins zero = omega arith
-some_small bins (suc n) = omega (arith, some_small bins n, count_small (get_or bins n 0))
+-- n words from `start` on, as a part of some
+pub part_heard : (words : List ℕ) (start n end : ℕ) → start + n ≡ end → end ≤ length words → some (heard_word (slice_range words start end)) (length (slice_range words start end)) ≡ some (heard_at words start) n
+part_heard words start n end e l =
+    let k : length (take (end - start) (drop start words)) ≡ n = simp (length-take, length-drop) (omega arith) in
+    rw k
+    (some_same (heard_word (slice_range words start end)) (heard_at words start) n
+    (λ i h. ap occupied_word (get_or-take (end - start) (drop start words) i 0 (omega arith) ∙ get_or-drop start words i 0)))
+
+-- counts of at most 255
+pub positions_fit : (words : List ℕ) (n : ℕ) → positions_among words n ≤ 255 * n
+unfolding positions_among pass
+positions_fit words zero = omega arith
+positions_fit words (suc n) = omega (arith, positions_fit words n, count_small (get_or words n 0))
 
 pub positions_small : (bins : List ℕ) → positions_of bins ≤ 18360
-unfolding positions_of
-positions_small bins = some_small bins 72
+unfolding positions_of positions_among
+positions_small bins = positions_fit bins 72
 
 pub far_small : (cells : List ℕ) (even odd : Bool) → (far_of cells even odd).positions ≤ 18360
 unfolding far_of
 far_small cells even odd = positions_small (bins_of cells even odd)
 
+-- what the loops that fill the grid and the bins leave
+pub grid_is : (cells : List ℕ) (even odd : Bool) → table (λ (i : ℕ). merged_at cells even odd (0 + i)) 1600 ≡ grid_of cells even odd
+unfolding grid_of
+grid_is cells even odd = table_same (λ (i : ℕ). merged_at cells even odd (0 + i)) (merged_at cells even odd) 1600 (λ i l. ap (merged_at cells even odd) (zero-add i))
+
+pub bins_is : (cells : List ℕ) (even odd : Bool) → table (λ (j : ℕ). merged_at cells even odd (1600 + j)) 72 ≡ bins_of cells even odd
+unfolding bins_of
+bins_is cells even odd = refl
+
 -- the bins with their sum
-pub far_is : (cells : List ℕ) (even odd : Bool) (bins : List ℕ) (n : ℕ) → bins ≡ bins_of cells even odd → n ≡ positions_of bins → ◌≡◌ {A = Far} (record { cells = bins; positions = n }) (far_of cells even odd)
-unfolding far_of
-far_is cells even odd bins n e p = cc
+pub far_is : (cells : List ℕ) (even odd : Bool) (bins : List ℕ) (n : ℕ) → bins ≡ bins_of cells even odd → n ≡ positions_among bins (length bins) → ◌≡◌ {A = Far} (record { cells = bins; positions = n }) (far_of cells even odd)
+unfolding far_of positions_of positions_among
+far_is cells even odd bins n e p =
+    let q : n ≡ positions_of (bins_of cells even odd) = p ∙ ap₂ positions_among e (ap length e ∙ bins_length cells even odd) in
+    λ i. record { cells = e i; positions = q i }

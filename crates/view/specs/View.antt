@@ -1,15 +1,13 @@
 -- The merged cells of one row (01, "A judging"). Definitions only.
-use Rattle.std.specs.Prelude.{ℕ, ◌+◌, ◌/◌, ◌<◌, ◌≡◌, Bool, true, false, ◌||◌, cond, List, eqb, get_or}
+use Rattle.std.specs.Prelude.{ℕ, ◌+◌, ◌/◌, ◌<◌, ◌≡◌, Bool, true, false, ◌||◌, cond, List, eqb, get_or, Some, None, Option}
 use Rattle.cells.specs.Cells.{count_of, empty_word, merged_word, occupied_word}
 use Rattle.cells.specs.Passes.{sum_of, how_many, some, table}
-use Rattle.view.specs.declared.EpochId.{EpochId}
-use Rattle.view.specs.declared.EpochId.TheVariants.{Id, Nothing}
 use Rattle.view.specs.declared.Far.{Far}
 
 -- Merge the halves whose id is now_ms div 43,200,000 or one less
-unfoldable pub kept : EpochId → ℕ → Bool
-kept (Id id) now = eqb id (now / 43200000) || eqb (id + 1) (now / 43200000)
-kept Nothing now = false
+unfoldable pub kept : Option ℕ → ℕ → Bool
+kept (Some id) now = eqb id (now / 43200000) || eqb (id + 1) (now / 43200000)
+kept None now = false
 
 -- a cell of the even half with one of the odd; of a half that is not merged, the empty cell
 unfoldable pub merged_of : Bool → Bool → ℕ → ℕ → ℕ
@@ -29,7 +27,10 @@ heard_in grid = some (λ (i : ℕ). occupied_word (get_or grid i 0)) 1600
 abbrev pub Unheard : List ℕ → Type 0
 Unheard grid = (i : ℕ) → i < 1600 → occupied_word (get_or grid i 0) ≡ false
 
--- whether a word from `start` on is
+-- whether word i is, of some words; and of those from `start` on
+abbrev pub heard_word : List ℕ → ℕ → Bool
+heard_word words i = occupied_word (get_or words i 0)
+
 abbrev pub heard_at : List ℕ → ℕ → ℕ → Bool
 heard_at words start i = occupied_word (get_or words (start + i) 0)
 
@@ -46,3 +47,7 @@ far_of cells even odd = record { cells = bins_of cells even odd; positions = pos
 -- what the code counts: how many of the first n words are occupied
 unfoldable pub occupied_among : List ℕ → ℕ → ℕ
 occupied_among words n = how_many (λ (i : ℕ). occupied_word (get_or words i 0)) n
+
+-- the positions of the first n words
+unfoldable pub positions_among : List ℕ → ℕ → ℕ
+positions_among words n = sum_of (λ (i : ℕ). true) (λ (i : ℕ). count_of (get_or words i 0)) n

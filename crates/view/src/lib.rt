@@ -1,16 +1,10 @@
 // What was heard over the halves still kept, merged.
 #![tactic(auto)]
 
-ghost use Rattle.std.specs.Prelude.{◌≡◌, ◌||◌, ◌&&◌, cond, ◌+◌, ◌≤◌, ◌<◌, eqb, length};
+ghost use Rattle.std.specs.Prelude.{◌≡◌, ℕ, ◌||◌, ◌&&◌, cond, ◌+◌, ◌≤◌, ◌<◌, eqb, length};
 ghost use Rattle.cells.specs.Cells.{empty_word};
-ghost use Rattle.cells.specs.Passes.{some};
-ghost use Rattle.view.specs.View.{kept, merged_at, grid_of, heard_at, heard_in, bins_of, positions_of, far_of, occupied_among};
-
-#[derive(Clone, Copy)]
-pub enum EpochId {
-    Id(u64),
-    Nothing,
-}
+ghost use Rattle.cells.specs.Passes.{some, table};
+ghost use Rattle.view.specs.View.{kept, merged_at, grid_of, heard_word, heard_in, far_of, occupied_among, positions_among};
 
 // The merged far bins, and how many positions they hold.
 #[derive(Clone, Copy)]
@@ -27,12 +21,13 @@ fn is_recent(id: u64, now: u64) -> bool
 }
 
 // Whether a half with this id is merged at now_ms.
-pub fn kept_at(id: EpochId, now_ms: u64) -> bool
+pub fn kept_at(id: Option<u64>, now_ms: u64) -> bool
     ensures { result ≡ kept id now_ms }
 {
+    // No `is_some_and`: what a closure answers, the proof does not see.
     match id {
-        EpochId::Id(n) => is_recent(n, now_ms / 43200000),
-        EpochId::Nothing => false,
+        Some(n) => is_recent(n, now_ms / 43200000),
+        None => false,
     }
 }
 
@@ -44,6 +39,7 @@ fn heard(keep: bool, w: u32) -> u32
 }
 
 // Cell i of both halves, merged.
+#[tactic(auto, unfolding(crate::specs::View::merged_of, crate::specs::View::merged_at))]
 fn merged_at(cells: &[u32], even: bool, odd: bool, i: usize) -> u32
     requires { (length cells.now ≡ 3344) × (i < 1672) }
     ensures { result ≡ merged_at cells.now even odd i }
@@ -51,26 +47,22 @@ fn merged_at(cells: &[u32], even: bool, odd: bool, i: usize) -> u32
     cells::merged_word(heard(even, cells[i]), heard(odd, cells[1672 + i]))
 }
 
-// Whether one of the 1,600 grid cells of a half, which starts at `from`, is occupied: the bits of all of them together tell.
-fn half_heard(cells: &[u32], from: usize) -> bool
-    requires { (length cells.now ≡ 3344) × (from ≤ 1672) }
-    ensures { result ≡ some (heard_at cells.now from) 1600 }
+// Whether one of some words is occupied: the bits of all of them together tell.
+pub fn heard_among(words: &[u32]) -> bool
+    ensures { result ≡ some (heard_word words.now) (length words.now) }
 {
-    let mut all: u32 = 0;
-    let mut i = 0;
-    while i < 1600 {
-        all = all | cells[from + i];
-        i += 1;
+    let mut all = 0;
+    for w in words {
+        all |= *w;
     }
     cells::occupied(all)
 }
 
-// The same of a half that is merged, or not.
-fn kept_heard(keep: bool, cells: &[u32], from: usize) -> bool
-    requires { (length cells.now ≡ 3344) × (from ≤ 1672) }
-    ensures { result ≡ (keep && some (heard_at cells.now from) 1600) }
+// The same of words of a half that is merged, or not.
+fn kept_heard(keep: bool, words: &[u32]) -> bool
+    ensures { result ≡ (keep && some (heard_word words.now) (length words.now)) }
 {
-    if keep { half_heard(cells, from) } else { false }
+    keep && heard_among(words)
 }
 
 // Whether a cell of the merged grid is occupied.
@@ -78,10 +70,19 @@ pub fn grid_heard(cells: &[u32], even: bool, odd: bool) -> bool
     requires { length cells.now ≡ 3344 }
     ensures { result ≡ heard_in (grid_of cells.now even odd) }
 {
-    if kept_heard(even, cells, 0) {
-        return true;
+    kept_heard(even, &cells[..1600]) || kept_heard(odd, &cells[1672..3272])
+}
+
+// N cells of both halves, from `start` on, merged.
+fn merged_from<const N: usize>(cells: &[u32], even: bool, odd: bool, start: usize) -> [u32; N]
+    requires { (length cells.now ≡ 3344) × (start + N ≤ 1672) }
+    ensures { result ≡ table (λ (i : ℕ). merged_at cells.now even odd (start + i)) N }
+{
+    let mut merged = [0u32; N];
+    for i in 0..N {
+        merged[i] = merged_at(cells, even, odd, start + i);
     }
-    kept_heard(odd, cells, 1672)
+    merged
 }
 
 // The merged grid.
@@ -89,38 +90,7 @@ pub fn grid_view(cells: &[u32], even: bool, odd: bool) -> [u32; 1600]
     requires { length cells.now ≡ 3344 }
     ensures { result ≡ grid_of cells.now even odd }
 {
-    let mut grid = [0u32; 1600];
-    let mut i = 0;
-    while i < 1600 {
-        grid[i] = merged_at(cells, even, odd, i);
-        i += 1;
-    }
-    grid
-}
-
-fn bins_view(cells: &[u32], even: bool, odd: bool) -> [u32; 72]
-    requires { length cells.now ≡ 3344 }
-    ensures { result ≡ bins_of cells.now even odd }
-{
-    let mut bins = [0u32; 72];
-    let mut i = 0;
-    while i < 72 {
-        bins[i] = merged_at(cells, even, odd, 1600 + i);
-        i += 1;
-    }
-    bins
-}
-
-fn positions_in(bins: [u32; 72]) -> u32
-    ensures { result ≡ positions_of bins }
-{
-    let mut sum: u32 = 0;
-    let mut i = 0;
-    while i < 72 {
-        sum += cells::count_of(bins[i]);
-        i += 1;
-    }
-    sum
+    merged_from(cells, even, odd, 0)
 }
 
 // How many of some words are occupied.
@@ -128,15 +98,25 @@ pub fn occupied_among(words: &[u32]) -> u32
     requires { length words.now ≤ 1600 }
     ensures { (result ≡ occupied_among words.now (length words.now)) × (result ≤ 1600) }
 {
-    let mut n: u32 = 0;
-    let mut i = 0;
-    while i < words.len() {
-        if cells::occupied(words[i]) {
+    let mut n = 0;
+    for w in words {
+        if cells::occupied(*w) {
             n += 1;
         }
-        i += 1;
     }
     n
+}
+
+// The positions of some words.
+pub fn positions_among(words: &[u32]) -> u32
+    requires { length words.now ≤ 1600 }
+    ensures { (result ≡ positions_among words.now (length words.now)) × (result ≤ 408000) }
+{
+    let mut sum = 0;
+    for w in words {
+        sum += cells::count_of(*w);
+    }
+    sum
 }
 
 // The merged far bins with their position total.
@@ -144,9 +124,9 @@ pub fn far_view(cells: &[u32], even: bool, odd: bool) -> Far
     requires { length cells.now ≡ 3344 }
     ensures { result ≡ far_of cells.now even odd }
 {
-    let bins = bins_view(cells, even, odd);
+    let bins = merged_from(cells, even, odd, 1600);
     Far {
         cells: bins,
-        positions: positions_in(bins),
+        positions: positions_among(&bins),
     }
 }

@@ -1,9 +1,9 @@
 -- How the contracts and the theorem of demand 3 meet: for every list of calls on a lent watch, each from what the one before left and each as its
 -- contract says, the answers are those of the definitions' `history` (`answers_are`). The theorem of crate `protection` speaks of that history. So it
 -- speaks of what was run: on a lent watch that `fresh` left, a protected receiver was answered as its card answers its calls alone (`kept`).
+use Rattle.std.specs.Prelude.{None}
 use mathlib.Core.Path.{◌≡◌, refl, ◌∙◌, ap, ap₂}
 use Prim.Native.Nat.{ℕ, ◌≤◌}
-use mathlib.Core.Option.{none}
 use mathlib.Core.List.{List, [], ◌∷◌, map}
 use Rattle.table.specs.Machine as M
 use Rattle.table.specs.Machine.{Call, Step, Event, history}
@@ -50,6 +50,6 @@ calls_in rs = map (λ (r : Run). r.call) rs
 
 -- what `fresh` leaves (its contract) is the fresh watch of C rows; fewer than C others were marked since k's latest mark at every point
 pub kept : (C : ℕ) → 1 ≤ C → C ≤ 4096 → (k : M.Key) (xs : List Row) (ys ws : List ℕ) (rs : List Run) → watch_is xs ys ws ≡ fresh_watch siting.form C → Met xs ys ws rs → Safe C k (calls_in rs)
-    → answers_to k (map event_of rs) ≡ card_answers k none (calls_of k (calls_in rs))
+    → answers_to k (map event_of rs) ≡ card_answers k None (calls_of k (calls_in rs))
 kept C one most k xs ys ws rs fresh m safe =
     ap (answers_to k) (answers_are xs ys ws rs m ∙ ap (λ (w : Watch Part). history (watch_step kind siting) w (calls_in rs)) fresh) ∙ promise.answers C one most k (calls_in rs) safe

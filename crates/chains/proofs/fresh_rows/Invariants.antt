@@ -1,11 +1,11 @@
--- The first i rows are made, and the words are as many as before. The measure is the number of rows left.
-use Rattle.std.proofs.Common.{◌≡◌, ◌≤◌, ◌-◌, length}
-use Rattle.flat.specs.Table.{rows_of}
-use Rattle.chains.proofs.Making.{Made}
+-- The rows from the i-th on are still to be made; in the end every row is what `filled` makes it.
+use Rattle.std.proofs.Common.{◌≡◌, ◌-◌, length}
+use Rattle.walks.proofs.Fill.{filled}
+use Rattle.rows.specs.Links.{fresh_of}
 use Rattle.chains.proofs.fresh_rows.Given as goal
 
 abbrev pub invariant-loop-i : goal.invariant-loop-i
-invariant-loop-i l = (l.i ≤ l.n) × Made l.n l.i (rows_of l.fn.rows) (rows_of l.rows) × (length l.rows ≡ length l.fn.rows)
-
-abbrev pub decreases-loop-i : goal.decreases-loop-i
-decreases-loop-i l = l.n - l.i
+invariant-loop-i g l =
+    let before = g.W.Lent.rows_in l.fn.rows in
+    let rows = g.W.Lent.rows_in l.rows in
+    (length rows ≡ length before) × (filled (fresh_of l.n) (length before - l.i) l.i rows ≡ filled (fresh_of l.n) (length before) 0 before)

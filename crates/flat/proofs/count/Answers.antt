@@ -1,16 +1,9 @@
--- A whole number of rows by the division, none where words are left over (`count_whole`, `count_torn`).
-use Rattle.flat.proofs.Rows.{width_some, count_whole, count_torn}
-use Rattle.std.proofs.Common.{rules}
+-- As many rows as chunks, none where words are left over (`counted`, `left_over`).
+use Rattle.flat.proofs.Rows.{counted, left_over}
 use Rattle.flat.proofs.count.Goals as goal
 
-pub returns-then-n-w-eq0 : goal.returns-then-n-w-eq0
-returns-then-n-w-eq0 c = search (count_whole, rules)
+pub returns-then-is_empty : goal.returns-then-is_empty
+returns-then-is_empty c = counted _ _ _ _ c.as_chunks.ensures.front_len c.as_chunks.ensures.back_len c.is_empty.ensures c.if-is_empty.true
 
-pub returns-else-n-w-eq0 : goal.returns-else-n-w-eq0
-returns-else-n-w-eq0 c = search (count_torn, rules)
-
-pub nonzero_rem-n : goal.nonzero_rem-n
-nonzero_rem-n c = search (width_some, rules)
-
-pub nonzero_div-result : goal.nonzero_div-result
-nonzero_div-result c = search (width_some, rules)
+pub returns-else-is_empty : goal.returns-else-is_empty
+returns-else-is_empty c = left_over _ _ _ c.as_chunks.ensures.back_len c.is_empty.ensures c.if-is_empty.false

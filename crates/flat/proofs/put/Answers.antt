@@ -10,16 +10,16 @@ offset_bounds-rows-a c = search (start_fits, rules)
 
 pub slice_bounds-close-end : goal.slice_bounds-close-end
 slice_bounds-close-end c =
-    let i : c.args.at < length (rows_of c.args.rows.now) = is_in_lem _ _ _ c.outside-bad.ensures c.if-bad.false in
+    let i : c.args.at < length (rows_of c.args.rows.now) = is_in_lem _ _ _ c.outside.ensures c.if-outside.false in
     end_in _ _ _ _ i c.start_of-a.ensures c.end_of-z.ensures
 
 pub close-requires : goal.close-requires
 close-requires c =
-    let i : c.args.at < length (rows_of c.args.rows.now) = is_in_lem _ _ _ c.outside-bad.ensures c.if-bad.false in
+    let i : c.args.at < length (rows_of c.args.rows.now) = is_in_lem _ _ _ c.outside.ensures c.if-outside.false in
     part_is _ _ _ _ i c.start_of-a.ensures c.end_of-z.ensures
 
 pub returns : goal.returns
 returns c =
-    let i : c.args.at < length (rows_of c.args.rows.now) = is_in_lem _ _ _ c.outside-bad.ensures c.if-bad.false in
+    let i : c.args.at < length (rows_of c.args.rows.now) = is_in_lem _ _ _ c.outside.ensures c.if-outside.false in
     let long : length c.close.new.words ≡ 25 = ap length c.close.ensures.0 ∙ row_words_lem c.args.row in
     (puts _ _ _ _ i c.start_of-a.ensures c.end_of-z.ensures _ c.args.row c.close.ensures.0 c.close.ensures.1, put_long _ _ _ _ i c.start_of-a.ensures c.end_of-z.ensures _ long)

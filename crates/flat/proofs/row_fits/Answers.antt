@@ -1,7 +1,10 @@
--- The three tests are the definition's (`row_fits_is`).
-use Rattle.flat.proofs.Opening.{row_fits_is}
+-- The tests are the definition's but for those of words that are in range by their type (`fits_by_parts`).
+use Rattle.flat.proofs.Opening.{fits_by_parts}
 use Rattle.std.proofs.Common.{rules}
 use Rattle.flat.proofs.row_fits.Goals as goal
 
-pub returns : goal.returns
-returns c = search (row_fits_is, rules)
+pub returns-then-numbers_fit : goal.returns-then-numbers_fit
+returns-then-numbers_fit c = fits_by_parts _ c.told-words c.fits-words _ (search rules)
+
+pub returns-else-numbers_fit : goal.returns-else-numbers_fit
+returns-else-numbers_fit c = fits_by_parts _ c.told-words c.fits-words _ (search rules)

@@ -10,15 +10,15 @@ offset_bounds-rows-a c = start_fits _ _ c.start_of-a.ensures c.ranges.at
 
 pub slice_bounds-store_links-end : goal.slice_bounds-store_links-end
 slice_bounds-store_links-end c =
-    let i : c.args.at < length (rows_of c.args.rows.now) = fit_in _ _ _ c.fits_at-good.ensures c.if-good.true in
+    let i : c.args.at < length (rows_of c.args.rows.now) = fit_in _ _ _ c.fits_at.ensures c.if-fits_at.true in
     end_in _ _ _ _ i c.start_of-a.ensures c.end_of-z.ensures
 
 pub store_links-requires : goal.store_links-requires
 store_links-requires c =
-    let i : c.args.at < length (rows_of c.args.rows.now) = fit_in _ _ _ c.fits_at-good.ensures c.if-good.true in
-    (part_is _ _ _ _ i c.start_of-a.ensures c.end_of-z.ensures, part_fits _ _ _ c.fits_at-good.ensures _ _ c.if-good.true c.start_of-a.ensures c.end_of-z.ensures _ refl)
+    let i : c.args.at < length (rows_of c.args.rows.now) = fit_in _ _ _ c.fits_at.ensures c.if-fits_at.true in
+    (part_is _ _ _ _ i c.start_of-a.ensures c.end_of-z.ensures, part_fits _ _ _ c.fits_at.ensures _ _ c.if-fits_at.true c.start_of-a.ensures c.end_of-z.ensures _ refl)
 
-pub returns-then-good : goal.returns-then-good
-returns-then-good c =
-    let i : c.args.at < length (rows_of c.args.rows.now) = fit_in _ _ _ c.fits_at-good.ensures c.if-good.true in
-    (links_changed _ _ _ c.fits_at-good.ensures _ _ c.if-good.true c.start_of-a.ensures c.end_of-z.ensures _ c.store_links.ensures.1 _ _ c.store_links.ensures.0, put_long _ _ _ _ i c.start_of-a.ensures c.end_of-z.ensures _ c.store_links.ensures.1)
+pub returns-then-fits_at : goal.returns-then-fits_at
+returns-then-fits_at c =
+    let i : c.args.at < length (rows_of c.args.rows.now) = fit_in _ _ _ c.fits_at.ensures c.if-fits_at.true in
+    (links_changed _ _ _ c.fits_at.ensures _ _ c.if-fits_at.true c.start_of-a.ensures c.end_of-z.ensures _ c.store_links.ensures.1 _ _ c.store_links.ensures.0, put_long _ _ _ _ i c.start_of-a.ensures c.end_of-z.ensures _ c.store_links.ensures.1)

@@ -1,10 +1,10 @@
--- Tag 0 is no site; of any other the degrees are tested (`site_none`, `site_held`).
-use Rattle.glances.proofs.Places.{site_none, site_held}
+-- Tag 0 is no site; of any other the degrees are tested (`site_told`).
+use Rattle.glances.proofs.Places.{site_told}
 use Rattle.std.proofs.Common.{rules}
 use Rattle.glances.proofs.site_sound.Goals as goal
 
 pub returns-then-words-eq0 : goal.returns-then-words-eq0
-returns-then-words-eq0 c = search (site_none, rules)
+returns-then-words-eq0 c = site_told c.args.words.now _ (search rules)
 
-pub returns : goal.returns
-returns c = search (site_held, rules)
+pub returns-else-words-eq0 : goal.returns-else-words-eq0
+returns-else-words-eq0 c = site_told c.args.words.now _ (search rules)

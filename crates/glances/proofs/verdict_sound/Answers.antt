@@ -1,13 +1,10 @@
--- Sound without a verdict or a distance, else by its distance (`verdict_none`, `distance_none`, `distance_held`).
-use Rattle.glances.proofs.Places.{verdict_none, distance_none, distance_held}
+-- Sound without a verdict or a distance, else by its distance (`verdict_told`).
+use Rattle.glances.proofs.Places.{verdict_told}
 use Rattle.std.proofs.Common.{rules}
 use Rattle.glances.proofs.verdict_sound.Goals as goal
 
-pub returns-then-words-eq0 : goal.returns-then-words-eq0
-returns-then-words-eq0 c = search (verdict_none, rules)
-
 pub returns-then-words-eq0-2 : goal.returns-then-words-eq0-2
-returns-then-words-eq0-2 c = search (distance_none, rules)
+returns-then-words-eq0-2 c = verdict_told c.args.words.now _ (search rules)
 
-pub returns : goal.returns
-returns c = search (distance_held, rules)
+pub returns-else-words-eq0-2 : goal.returns-else-words-eq0-2
+returns-else-words-eq0-2 c = verdict_told c.args.words.now _ (search rules)

@@ -2,8 +2,8 @@
 use Rattle.judge.proofs.Ways.{off_empty, off_excess}
 use Rattle.judge.proofs.horizon_off.Goals as goal
 
-pub returns-in-Off : goal.returns-in-Off
-returns-in-Off c = off_empty c.args.empty c.args.excess c.in-Off.km c.in-Off.is
+pub returns-in-Some : goal.returns-in-Some
+returns-in-Some c = off_empty c.args.empty c.args.excess c.in-Some.km c.in-Some.is
 
-pub returns-in-Heard : goal.returns-in-Heard
-returns-in-Heard c = off_excess c.args.empty c.args.excess _ c.in-Heard.is c.off_km.ensures
+pub returns-in-None : goal.returns-in-None
+returns-in-None c = off_excess c.args.empty c.args.excess _ c.in-None.is c.off_km.ensures

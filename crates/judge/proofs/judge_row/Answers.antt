@@ -1,6 +1,7 @@
 -- The views are the definition's; where no cell of the grid is occupied the bins alone are judged, and where neither half is merged the
 -- answer is Unjudged (Unheard).
 use Rattle.std.proofs.Common.{sym, ap, ap₂, ◌∙◌}
+use Rattle.std.proofs.lemmas.Bool.{or_from}
 use Rattle.view.specs.View.{grid_of}
 use Rattle.view.proofs.Views.{unheard}
 use Rattle.judge.specs.Judging.{judge_cells, judge_row}
@@ -11,12 +12,12 @@ pub returns-then-grid_heard : goal.returns-then-grid_heard
 unfolding judge_row
 returns-then-grid_heard c = c.judge_cells.ensures ∙ ap₂ (judge_cells c.args.site) c.grid_view-grid.ensures c.far_view-far.ensures
 
-pub returns-then-either : goal.returns-then-either
+pub returns-then-even : goal.returns-then-even
 unfolding judge_row
-returns-then-either c =
+returns-then-even c =
     let s = c.args in
     c.judge_far.ensures (grid_of s.cells.now s.even s.odd) (unheard _ (sym c.grid_heard.ensures ∙ c.if-grid_heard.false))
     ∙ ap (judge_cells s.site (grid_of s.cells.now s.even s.odd)) c.far_view-far.ensures
 
 pub returns : goal.returns
-returns c = let s = c.args in nothing_kept s.site s.cells.now s.even s.odd (sym c.either.ensures ∙ c.if-either.false)
+returns c = let s = c.args in nothing_kept s.site s.cells.now s.even s.odd (or_from s.even s.odd c.if-even.false c.if-odd.false)

@@ -6,15 +6,14 @@ use Rattle.keys.proofs.key_bytes.Goals as goal
 
 pub loop-i-init : goal.loop-i-init
 unfolding key_bytes
-loop-i-init c = (omega arith, refl, refl)
+loop-i-init c = (refl, refl)
 
 pub loop-i-preserved : goal.loop-i-preserved
 loop-i-preserved c =
     let l = c.loop-i in (
-      omega arith,
-      (simp length-set l.invariant.1),
-      key_on c.args.s.now l.out l.i c.key_byte.result (omega arith) l.invariant.2 c.key_byte.ensures,
+      (simp length-set l.invariant.0),
+      key_on c.args.s.now l.byte-items l.i c.key_byte.result (omega arith) l.invariant.1 c.key_byte.ensures,
     )
 
 pub returns : goal.returns
-returns c = let l = c.loop-i in key_whole c.args.s.now l.out l.i l.invariant.1 (omega arith) l.invariant.2
+returns c = let l = c.loop-i in key_whole c.args.s.now l.byte-items l.i l.invariant.0 (omega arith) l.invariant.1

@@ -7,18 +7,18 @@ use Rattle.nearest.proofs.cell_steps.Goals as goal
 
 pub loop-i-init : goal.loop-i-init
 unfolding no_steps
-loop-i-init c = (search rules, sym (pass_none (gather cell_step c.args.grid.now) no_steps))
+loop-i-init c = sym (pass_none (gather cell_step c.args.grid.now) no_steps)
 
 pub gather_cell-requires : goal.gather_cell-requires
 gather_cell-requires c =
     let l = c.loop-i in
-    (search rules, omega (arith, ap (λ (t : List ℕ). get_or t (cell_step l.i) 0) l.invariant.1, cells_fit c.args.grid.now l.i (cell_step l.i)))
+    (search rules, omega (arith, ap (λ (t : List ℕ). get_or t (cell_step l.i) 0) l.invariant, cells_fit c.args.grid.now l.i (cell_step l.i)))
 
 pub loop-i-preserved : goal.loop-i-preserved
 loop-i-preserved c =
     let l = c.loop-i in
-    (search rules, c.gather_cell.ensures ∙ gather_next cell_step c.args.grid.now no_steps l.at l.i l.invariant.1)
+    c.gather_cell.ensures ∙ gather_next cell_step c.args.grid.now no_steps l.at l.i l.invariant
 
 pub returns : goal.returns
 unfolding cell_steps
-returns c = let l = c.loop-i in let e : l.i ≡ 1600 = omega arith in rw e at l.invariant.1
+returns c = let l = c.loop-i in let e : l.i ≡ 1600 = omega arith in rw e at l.invariant

@@ -2,8 +2,8 @@
 use Rattle.nearest.proofs.Two.{put_before, put_behind}
 use Rattle.nearest.proofs.put.Goals as goal
 
-pub returns-then-spot-first : goal.returns-then-spot-first
-returns-then-spot-first c = put_before _ _ c.if-spot-first.true
+pub returns-then-spot-near : goal.returns-then-spot-near
+returns-then-spot-near c = put_before _ _ c.if-spot-near.true
 
 pub returns : goal.returns
-returns c = put_behind _ _ c.if-spot-first.false
+returns c = put_behind _ _ c.if-spot-near.false

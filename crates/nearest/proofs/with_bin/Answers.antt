@@ -4,11 +4,11 @@ use Rattle.nearest.specs.Counted.{bin_spot}
 use Rattle.nearest.proofs.Two.{edge_squares, edge_square, same_spot, is_nearer, not_nearer}
 use Rattle.nearest.proofs.with_bin.Goals as goal
 
-pub returns-then-d-second : goal.returns-then-d-second
+pub returns-then-d-near : goal.returns-then-d-near
 unfolding edge_squares bin_spot
-returns-then-d-second c =
-    c.put.ensures ∙ is_nearer _ _ _ (same_spot (edge_square c.args.j) c.bin_step.ensures.0 c.count_of.ensures) c.if-d-second.true
+returns-then-d-near c =
+    c.put.ensures ∙ is_nearer _ _ _ (same_spot (edge_square c.args.j) c.bin_step.ensures.0 c.count_of.ensures) c.if-d-near.true
 
 pub returns : goal.returns
 unfolding edge_squares bin_spot
-returns c = not_nearer _ (bin_spot _ _) _ (edge_square c.args.j) c.if-d-second.false
+returns c = not_nearer _ (bin_spot _ _) _ (edge_square c.args.j) c.if-d-near.false

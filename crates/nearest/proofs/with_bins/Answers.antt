@@ -6,55 +6,62 @@ use Rattle.cells.specs.Passes.{pass}
 use Rattle.cells.proofs.Words.{count_small}
 use Rattle.cells.proofs.Passes.{pass_none}
 use Rattle.nearest.specs.Counted.{bin_step, gather, all_steps}
-use Rattle.nearest.proofs.Sums.{positions_fit, some_left, none_seen, seen_one, seen_none}
+use Rattle.view.proofs.Views.{positions_fit}
+use Rattle.nearest.proofs.Sums.{none_seen, seen_one, seen_none}
 use Rattle.nearest.proofs.Gathered.{bins_below_fit, gather_next, gather_same, gather_none, all_gathered_by}
 use Rattle.nearest.proofs.with_bins.Goals as goal
+use Rattle.nearest.proofs.with_bins.Goals.{then-occupied, else-occupied}
 
-pub loop-seen-init : goal.loop-seen-init
-loop-seen-init c = (search rules, sym (pass_none (gather bin_step c.args.bins) c.args.cells), none_seen _)
+pub loop-j-init : goal.loop-j-init
+loop-j-init c = record { at = sym (pass_none (gather bin_step c.args.bins) c.args.cells); seen = none_seen _ }
 
 pub overflow_add-at : goal.overflow_add-at
 overflow_add-at c =
-    let l = c.loop-seen in
+    let l = c.loop-j in
     let p = c.requires.0 in
     let k = c.bin_step-k.result in
     omega (
       arith,
-      ap (λ (t : List ℕ). get_or t k 0) (l.invariant.1 ∙ ap (λ (t : List ℕ). pass (gather bin_step c.args.bins) t l.j) p.1),
+      ap (λ (t : List ℕ). get_or t k 0) (l.invariant.at ∙ ap (λ (t : List ℕ). pass (gather bin_step c.args.bins) t l.j) p.1),
       bins_below_fit p.0 c.args.bins l.j k,
       count_small (get_or c.args.bins l.j 0),
     )
 
 pub overflow_add-seen : goal.overflow_add-seen
 overflow_add-seen c =
-    let l = c.loop-seen in
-    omega (arith, l.invariant.2, positions_fit c.args.bins l.j, count_small (get_or c.args.bins l.j 0))
+    let l = c.loop-j in
+    omega (arith, l.invariant.seen, positions_fit c.args.bins l.j, count_small (get_or c.args.bins l.j 0))
 
-pub loop-seen-preserved-then-occupied : goal.loop-seen-preserved-then-occupied
-loop-seen-preserved-then-occupied c =
-    let l = c.loop-seen in
-    let s = c.args in (
-      omega (arith, some_left s.bins l.j 72 l.invariant.0 (omega (arith, l.invariant.2, c.requires.1))),
-      gather_same l.at c.bin_step-k.ensures.0 c.count_of-n.ensures ∙ gather_next bin_step s.bins s.cells l.at l.j l.invariant.1,
-      seen_one _ l.seen _ l.j l.invariant.2 c.count_of-n.ensures,
-    )
-
-pub loop-seen-preserved : goal.loop-seen-preserved
-loop-seen-preserved c =
-    let l = c.loop-seen in
+pub loop-j-preserved : goal.loop-j-preserved
+loop-j-preserved c =
+    let l = c.loop-j in
     let s = c.args in
-    let w = get_or s.bins l.j 0 in
-    let free = sym c.occupied.ensures ∙ c.if-occupied.false in
-    let none : count_of w ≡ 0 = omega (arith, ltb-false 0 (count_of w) free) in (
-      omega (arith, some_left s.bins l.j 72 l.invariant.0 (omega (arith, l.invariant.2, c.requires.1))),
-      gather_none l.at (bin_step l.j) (count_of w) none ∙ gather_next bin_step s.bins s.cells l.at l.j l.invariant.1,
-      seen_none _ l.seen l.j l.invariant.2 free,
-    )
+    elim c.if-occupied.branch [
+      | then-occupied w ↦ record {
+        at = w.at-is ∙ gather_same l.at w.bin_step-k.ensures.0 w.count_of-n.ensures ∙ gather_next bin_step s.bins s.cells l.at l.j l.invariant.at;
+        seen = w.seen-is ∙ seen_one _ l.seen _ l.j l.invariant.seen w.count_of-n.ensures;
+      }
+      | else-occupied w ↦
+          let word = get_or s.bins l.j 0 in
+          let free = sym c.occupied.ensures ∙ w.if-occupied.false in
+          let none : count_of word ≡ 0 = omega (arith, ltb-false 0 (count_of word) free) in
+          record {
+            at = w.at-is ∙ gather_none l.at (bin_step l.j) (count_of word) none ∙ gather_next bin_step s.bins s.cells l.at l.j l.invariant.at;
+            seen = w.seen-is ∙ seen_none _ l.seen l.j l.invariant.seen free;
+          }
+    ]
+
+pub returns-then-positions-seen : goal.returns-then-positions-seen
+unfolding all_steps
+returns-then-positions-seen c =
+    let l = c.loop-j in
+    let s = c.args in
+    let all = all_gathered_by bin_step s.bins s.cells l.j 72 (omega arith) (omega (arith, l.invariant.seen, c.requires.1)) in
+    λ g h. l.invariant.at ∙ sym all ∙ ap (λ (t : List ℕ). pass (gather bin_step s.bins) t 72) h
 
 pub returns : goal.returns
 unfolding all_steps
 returns c =
-    let l = c.loop-seen in
-    let s = c.args in
-    let all = all_gathered_by bin_step s.bins s.cells l.j 72 l.invariant.0 (omega (arith, l.invariant.2, c.requires.1)) in
-    λ g h. l.invariant.1 ∙ sym all ∙ ap (λ (t : List ℕ). pass (gather bin_step s.bins) t 72) h
+    let l = c.loop-j in
+    let e : l.j ≡ 72 = omega arith in
+    λ g h. rw e at l.invariant.at ∙ ap (λ (t : List ℕ). pass (gather bin_step c.args.bins) t 72) h

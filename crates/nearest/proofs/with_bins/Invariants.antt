@@ -1,11 +1,9 @@
 -- The loop gathers the bins on top of the cells, a word at a turn, and has seen the positions of the words so far.
-use Rattle.std.proofs.Common.{◌≡◌, ◌-◌, ◌≤◌}
+use Rattle.std.proofs.Common.{◌≡◌}
 use Rattle.cells.specs.Passes.{pass}
-use Rattle.nearest.specs.Counted.{positions_among, bin_step, gather}
+use Rattle.view.specs.View.{positions_among}
+use Rattle.nearest.specs.Counted.{bin_step, gather}
 use Rattle.nearest.proofs.with_bins.Given as goal
 
-abbrev pub invariant-loop-seen : goal.invariant-loop-seen
-invariant-loop-seen l = (l.j ≤ 72) × (l.at ≡ pass (gather bin_step l.bins) l.fn.cells l.j) × (l.seen ≡ positions_among l.bins l.j)
-
-abbrev pub decreases-loop-seen : goal.decreases-loop-seen
-decreases-loop-seen l = 72 - l.j
+abbrev pub invariant-loop-j : goal.invariant-loop-j
+invariant-loop-j l = record { at : l.at ≡ pass (gather bin_step l.fn.bins) l.fn.cells l.j; seen : l.seen ≡ positions_among l.fn.bins l.j }

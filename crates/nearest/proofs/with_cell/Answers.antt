@@ -5,14 +5,14 @@ use Rattle.nearest.specs.Counted.{cell_spot}
 use Rattle.nearest.proofs.Two.{same_spot, is_nearer, not_nearer}
 use Rattle.nearest.proofs.with_cell.Goals as goal
 
-pub returns-then-d-second : goal.returns-then-d-second
+pub returns-then-d-near : goal.returns-then-d-near
 unfolding cell_spot
-returns-then-d-second c =
+returns-then-d-near c =
     c.put.ensures
     ∙ is_nearer _ _ _
     (same_spot (c.distance-d.ensures.0 ∙ same_dist c.east_of.ensures c.north_of.ensures refl refl) c.cell_step.ensures.0 c.count_of.ensures)
-    c.if-d-second.true
+    c.if-d-near.true
 
 pub returns : goal.returns
 unfolding cell_spot
-returns c = not_nearer _ (cell_spot _ _) _ (c.distance-d.ensures.0 ∙ same_dist c.east_of.ensures c.north_of.ensures refl refl) c.if-d-second.false
+returns c = not_nearer _ (cell_spot _ _) _ (c.distance-d.ensures.0 ∙ same_dist c.east_of.ensures c.north_of.ensures refl refl) c.if-d-near.false

@@ -2,7 +2,7 @@
 use Rattle.std.proofs.Common.{◌≡◌, ℕ, ◌+◌, List, length, ◌∙◌, arith}
 use Rattle.view.specs.declared.Far.{Far}
 use Rattle.nearest.specs.Nothing.{places_heard, positions_in}
-use Rattle.nearest.specs.Counted.{positions_among}
+use Rattle.view.specs.View.{positions_among}
 use Rattle.nearest.proofs.Two.{cells_nearest, bins_nearest}
 use Rattle.nearest.proofs.Answers.{few_positions, some_near, is_off}
 use Rattle.nothing_near.proofs.Counted.{positions_counted}

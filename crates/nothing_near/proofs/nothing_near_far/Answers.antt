@@ -4,7 +4,8 @@ use Rattle.view.specs.View.{Unheard}
 use Rattle.view.specs.declared.Far.{Far}
 use Rattle.nearest.specs.declared.Nearest.{Nearest}
 use Rattle.nearest.specs.Nothing.{places_heard, positions_in}
-use Rattle.nearest.specs.Counted.{positions_among, no_steps, cell_steps, all_steps, bin_spot, two_nearest, nearest_among}
+use Rattle.view.specs.View.{positions_among}
+use Rattle.nearest.specs.Counted.{no_steps, cell_steps, all_steps, bin_spot, two_nearest, nearest_among}
 use Rattle.nearest.proofs.Two.{bins_nearest}
 use Rattle.nearest.proofs.Answers.{few_positions, is_off}
 use Rattle.nothing_near.specs.Counted.{Kept}

@@ -1,12 +1,7 @@
 -- The first byte decides; an empty slice has none.
-use Rattle.std.proofs.Common.{refl}
-use Rattle.numbers.specs.Numbers.{is_minus}
-use Rattle.numbers.proofs.Values.{minus_none}
+use Rattle.std.proofs.Common.{◌∙◌, refl}
+use Rattle.numbers.proofs.Values.{minus_is}
 use Rattle.numbers.proofs.is_minus.Goals as goal
 
-pub returns-then-s-eq0 : goal.returns-then-s-eq0
-returns-then-s-eq0 c = minus_none c.args.s.now c.if-s-eq0.true
-
 pub returns : goal.returns
-unfolding is_minus
-returns c = refl
+returns c = c.eq.ensures ∙ minus_is c.args.s.now c.first.result _ refl c.first.ensures.value

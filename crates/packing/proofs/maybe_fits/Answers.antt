@@ -1,13 +1,13 @@
--- By the tag: none, a number, or neither (`maybe_none`, `maybe_some`, `maybe_other`).
-use Rattle.packing.proofs.Opening.{maybe_none, maybe_some, maybe_other}
+-- By the tag: none, a value, or neither.
+use Rattle.packing.proofs.Tests.{maybe_none, maybe_some, maybe_other}
 use Rattle.std.proofs.Common.{rules}
 use Rattle.packing.proofs.maybe_fits.Goals as goal
 
-pub returns-then-tag-eq0 : goal.returns-then-tag-eq0
-returns-then-tag-eq0 c = search (maybe_none, rules)
+pub returns-in-0 : goal.returns-in-0
+returns-in-0 g c = search (maybe_none, rules)
 
-pub returns-then-tag-eq1 : goal.returns-then-tag-eq1
-returns-then-tag-eq1 c = search (maybe_some, rules)
+pub returns-in-1 : goal.returns-in-1
+returns-in-1 g c = search (maybe_some, rules)
 
-pub returns : goal.returns
-returns c = search (maybe_other, rules)
+pub returns-in_default : goal.returns-in_default
+returns-in_default g c = search (maybe_other, rules)

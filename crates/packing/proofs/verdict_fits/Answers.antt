@@ -1,10 +1,10 @@
--- By the tag: six zeros behind none, else a run (`verdict_fits_none`, `verdict_fits_some`).
-use Rattle.packing.proofs.Opening.{verdict_fits_none, verdict_fits_some}
+-- Six zeros behind none, else a run.
+use Rattle.packing.proofs.Tests.{zeros_part, verdict_none, verdict_some}
 use Rattle.std.proofs.Common.{rules}
 use Rattle.packing.proofs.verdict_fits.Goals as goal
 
-pub returns-then-words-at-eq0 : goal.returns-then-words-at-eq0
-returns-then-words-at-eq0 c = search (verdict_fits_none, rules)
+pub returns-then-words-eq0 : goal.returns-then-words-eq0
+returns-then-words-eq0 c = search (verdict_none, zeros_part 6 1, rules)
 
 pub returns : goal.returns
-returns c = search (verdict_fits_some, rules)
+returns c = search (verdict_some, rules)

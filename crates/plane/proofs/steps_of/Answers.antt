@@ -9,14 +9,14 @@ pub returns-then-num-odd : goal.returns-then-num-odd
 unfolding steps square
 returns-then-num-odd c =
     let l = c.loop-k in
-    (sym (first_unique _ 160 l.k (omega arith) l.invariant.1 (λ h. lt-ltb c.args.num _ c.if-num-odd.true)), omega arith)
+    (sym (first_unique _ 160 l.k (omega arith) l.invariant (λ h. lt-ltb c.args.num _ c.if-num-odd.true)), omega arith)
 
 pub loop-k-preserved : goal.loop-k-preserved
 unfolding square
 loop-k-preserved c =
     let l = c.loop-k in
-    (omega arith, below_more _ l.k l.invariant.1 (le-ltb c.args.num _ c.if-num-odd.false))
+    below_more _ l.k l.invariant (le-ltb c.args.num _ c.if-num-odd.false)
 
 pub returns : goal.returns
-unfolding steps
-returns c = let l = c.loop-k in (sym (first_unique _ 160 l.k (omega arith) l.invariant.1 (λ h. absurd (omega arith))), omega arith)
+unfolding steps square
+returns c = let l = c.loop-k in (sym (first_unique _ 160 160 (omega arith) (λ j h. l.invariant j (omega arith)) (λ h. absurd (omega arith))), omega arith)

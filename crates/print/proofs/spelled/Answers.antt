@@ -9,15 +9,14 @@ pub loop-i-init : goal.loop-i-init
 unfolding digits
 loop-i-init c =
     let a = c.args in
-    (omega arith, refl, refl, sym (ap (λ (z : ℕ). a.n / z) (pow-zero a.base) ∙ div-one a.n))
+    (refl, refl, sym (ap (λ (z : ℕ). a.n / z) (pow-zero a.base) ∙ div-one a.n))
 
 pub loop-i-preserved : goal.loop-i-preserved
 loop-i-preserved c =
     let l = c.loop-i in
     let a = c.args in (
-      omega arith,
-      (simp length-set l.invariant.1),
-      spell_on a.base a.n l.i c.glyph.result l.out (omega arith) l.invariant.0 l.invariant.1 l.invariant.2
-          (c.glyph.ensures ∙ ap (λ (z : ℕ). glyph_of (z % a.base)) l.invariant.3),
-      rest_on a.base a.n l.i l.rest (omega arith) l.invariant.0 l.invariant.3,
+      (simp length-set l.invariant.0),
+      spell_on a.base a.n l.i c.glyph.result l.out (omega arith) (omega arith) l.invariant.0 l.invariant.1
+          (c.glyph.ensures ∙ ap (λ (z : ℕ). glyph_of (z % a.base)) l.invariant.2),
+      rest_on a.base a.n l.i l.rest (omega arith) (omega arith) l.invariant.2,
     )

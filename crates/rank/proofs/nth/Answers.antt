@@ -2,31 +2,29 @@
 use Rattle.std.proofs.Common.{arith}
 use Rattle.rank.proofs.Counted.{begun, raised, lowered, not_under, not_above, ended}
 use Rattle.rank.proofs.nth.Goals as goal
+use Rattle.rank.proofs.nth.Goals.{then-low-x+then-x-high+then-below-k, then-low-x+then-x-high+else-below-k, else-low-x, else-low-x-via-then-low-x+else-x-high, else-low-x-via-else-low-x}
 
-pub loop-i-init : goal.loop-i-init
-loop-i-init c = (omega arith, begun _ _)
+pub loop-x-init : goal.loop-x-init
+loop-x-init c = begun _ _
 
-pub loop-i-preserved-then-below-k : goal.loop-i-preserved-then-below-k
-loop-i-preserved-then-below-k c =
-    let l = c.loop-i in
-    (omega arith, raised c.args.xs.now c.args.k c.requires.0 c.requires.1 l.i l.low l.high l.invariant.1 (omega arith) c.if-low-x.true (omega (arith, c.below.ensures.0, c.if-below-k.true)))
-
-pub loop-i-preserved-else-below-k : goal.loop-i-preserved-else-below-k
-loop-i-preserved-else-below-k c =
-    let l = c.loop-i in
-    (omega arith, lowered c.args.xs.now c.args.k c.requires.0 c.requires.1 l.i l.low l.high l.invariant.1 (omega arith) (omega (arith, c.below.ensures.0, c.if-below-k.false)))
-
-pub loop-i-preserved-else-x-high : goal.loop-i-preserved-else-x-high
-loop-i-preserved-else-x-high c =
-    let l = c.loop-i in
-    (omega arith, not_under c.args.xs.now c.args.k c.requires.0 c.requires.1 l.i l.low l.high l.invariant.1 (omega arith) c.if-x-high.false)
-
-pub loop-i-preserved : goal.loop-i-preserved
-loop-i-preserved c =
-    let l = c.loop-i in
-    (omega arith, not_above c.args.xs.now c.args.k c.requires.0 c.requires.1 l.i l.low l.high l.invariant.1 (omega arith) c.if-low-x.false)
+pub loop-x-preserved : goal.loop-x-preserved
+loop-x-preserved c =
+    let l = c.loop-x in
+    let xs = c.args.xs.now in
+    let k = c.args.k in
+    let i = l.x-index in
+    elim c.if-low-x.branch [
+      | then-low-x+then-x-high+then-below-k w ↦
+          rw (w.low-is, w.high-is) (raised xs k c.requires.0 c.requires.1 i l.low l.high l.invariant c.loop-x-test.true w.if-low-x.true (omega (arith, w.below.ensures.0, w.if-below-k.true)))
+      | then-low-x+then-x-high+else-below-k w ↦
+          rw (w.low-is, w.high-is) (lowered xs k c.requires.0 c.requires.1 i l.low l.high l.invariant c.loop-x-test.true (omega (arith, w.below.ensures.0, w.if-below-k.false)))
+      | else-low-x w ↦ rw (w.low-is, w.high-is) (elim w.else-low-x.branch [
+        | else-low-x-via-then-low-x+else-x-high v ↦ not_under xs k c.requires.0 c.requires.1 i l.low l.high l.invariant c.loop-x-test.true v.if-x-high.false
+        | else-low-x-via-else-low-x v ↦ not_above xs k c.requires.0 c.requires.1 i l.low l.high l.invariant c.loop-x-test.true v.if-low-x.false
+      ])
+    ]
 
 pub returns : goal.returns
 returns c =
-    let l = c.loop-i in
-    ended c.args.xs.now c.args.k c.requires.0 c.requires.1 l.i l.low l.high l.invariant.1 (omega arith)
+    let l = c.loop-x in
+    ended c.args.xs.now c.args.k c.requires.0 c.requires.1 l.x-index l.low l.high l.invariant (omega arith)

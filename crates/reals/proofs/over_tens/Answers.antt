@@ -8,11 +8,11 @@ use Rattle.reals.proofs.over_tens.Goals as goal
 pub returns-then-minus : goal.returns-then-minus
 returns-then-minus c =
     let a = c.args in
-    let q = quotient a.m a.places c.ten_to.result _ _ c.requires.0 c.requires.1 c.nearest_u64_to_f64.ensures c.nearest_u64_to_f64-2.ensures c.ten_to.ensures in
+    let q = quotient a.m a.places c.pow-tens.result _ _ c.requires.0 c.requires.1 c.nearest_u64_to_f64.ensures c.nearest_u64_to_f64-2.ensures c.pow-tens.ensures in
     ap neg q ∙ neg_round a.m (10 ^ a.places) ∙ ap (λ b. round binary64 b a.m (10 ^ a.places)) (sym c.if-minus.true)
 
 pub returns-else-minus : goal.returns-else-minus
 returns-else-minus c =
     let a = c.args in
-    quotient a.m a.places c.ten_to.result _ _ c.requires.0 c.requires.1 c.nearest_u64_to_f64.ensures c.nearest_u64_to_f64-2.ensures c.ten_to.ensures
+    quotient a.m a.places c.pow-tens.result _ _ c.requires.0 c.requires.1 c.nearest_u64_to_f64.ensures c.nearest_u64_to_f64-2.ensures c.pow-tens.ensures
     ∙ ap (λ b. round binary64 b a.m (10 ^ a.places)) (sym c.if-minus.false)

@@ -1,5 +1,5 @@
 -- `nearest_by`: what the two tests pass, `set_right` of `proofs/Guessed.antt` sets right.
-use Rattle.std.proofs.Common.{◌≡◌, ℕ, ◌+◌, ◌-◌, ◌*◌, ◌/◌, ◌%◌, ◌^◌, ◌<◌, ◌≤◌, ap, ◌∙◌, mul-le-mul, arith}
+use Rattle.std.proofs.Common.{◌≡◌, ℕ, ◌+◌, ◌-◌, ◌*◌, ◌/◌, ◌%◌, ◌^◌, ◌<◌, ◌≤◌, mul-le-mul, arith}
 use Rattle.root.proofs.Guessed.{set_right}
 use Rattle.root.proofs.nearest_by.Goals as goal
 
@@ -24,22 +24,20 @@ module _ (q : ℕ) (small : q < 2 ^ 53) where
   st_le = mul-le-mul s_le t_le
 
 -- what the wrapped differences were
-whole_left : (l m p : ℕ) → (l + m) % 2 ^ 64 ≡ p → l < 2 ^ 30 → m ≤ 2 ^ 54 → p ≡ l + m
-whole_left l m p e h k = omega arith
+whole_left : (p m : ℕ) → (p + (2 ^ 64 - m)) % 2 ^ 64 < 2 ^ 30 → p < 2 ^ 54 → m ≤ 2 ^ 54 → p ≡ (p + (2 ^ 64 - m)) % 2 ^ 64 + m
+whole_left p m h j k = omega arith
 
-whole_rest : (w m a s : ℕ) → (w + m * 2) % 2 ^ 64 ≡ a → w < s * 5 → s ≤ 2 ^ 27 → m ≤ 2 ^ 53 → w + m * 2 ≡ a
-whole_rest w m a s e h k l = omega arith
-
-put_bits : (q x y a b n : ℕ) → x ≡ a → y ≡ b → q + a - b ≡ n → q + x - y ≡ n
-put_bits q x y a b n e f g = ap (λ (z : ℕ). q + z - y) e ∙ ap (λ (z : ℕ). q + a - z) f ∙ g
+whole_rest : (a m s : ℕ) → (a + (2 ^ 64 - m * 2)) % 2 ^ 64 < s * 5 → s ≤ 2 ^ 27 → m ≤ 2 ^ 53 → a < 2 ^ 57 → (a + (2 ^ 64 - m * 2)) % 2 ^ 64 + m * 2 ≡ a
+whole_rest a m s h k l j = omega arith
 
 pub returns : goal.returns
-returns c p =
-    let q = c.args.q in
-    let small = c.requires.3 in
-    let left = c.wrapping_sub_u64-left in
-    let rest = c.wrapping_sub_u64-w in
-    put_bits q c.bit.result c.bit-2.result _ _ _ c.bit.ensures.0 c.bit-2.ensures.0
-    (set_right c.args.p q (q / 2 ^ 26) (q % 2 ^ 26) left.result rest.result (omega arith) (omega arith) (omega arith)
-    (whole_left left.result (q / 2 ^ 26 * (q / 2 ^ 26)) c.args.p left.ensures.value c.if-left-ge1073741824.false (ss_le q small))
-    (whole_rest rest.result (q / 2 ^ 26 * (q % 2 ^ 26)) _ (q / 2 ^ 26) rest.ensures.value c.if-w-s.false (s_le q small) (st_le q small)) c.if-w-s.false)
+returns c =
+    let p = c.args.p in
+    let q = c.in_ok-q.q in
+    let s = q / 2 ^ 26 in
+    let t = q % 2 ^ 26 in
+    let within : (2 ^ 52 ≤ q) × (q < 2 ^ 53) = c.in_ok-q.ensures in
+    let small = within.1 in
+    set_right p q s t _ _ (omega arith) (omega (arith, within.0)) (omega arith)
+    (whole_left p (s * s) c.if-left.false c.requires.1 (ss_le q small))
+    (whole_rest _ (s * t) s c.if-w-s.false (s_le q small) (st_le q small) (omega (arith, c.if-left.false, s_le q small))) c.if-w-s.false

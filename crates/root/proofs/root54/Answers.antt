@@ -5,7 +5,7 @@ use Rattle.root.proofs.root54.Goals as goal
 pub returns-then-u-q : goal.returns-then-u-q
 returns-then-u-q c =
     let p = c.args.p in
-    let s = c.isqrt54-s.result in
-    let w = c.isqrt54-s.ensures in
-    let z = one_less p s c.requires.0 c.requires.1 w.0 w.1 c.if-u-q.true in
+    let s = c.isqrt-s.result in
+    let w = c.isqrt-s.ensures in
+    let z = one_less p s c.requires.0 c.requires.1 w.square_le w.next_square_gt c.if-u-q.true in
     (z.0, z.1, root_lt p _ c.requires.1 z.0)

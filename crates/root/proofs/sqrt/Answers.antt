@@ -1,5 +1,5 @@
 -- `sqrt`: each goal is a fact of `proofs/Value.antt` on the pattern of x.
-use Rattle.std.proofs.Common.{◌≡◌, ℕ, ◌/◌, ◌%◌, ◌^◌, ◌<◌, ◌≤◌, true, T, sym, refl, ap, ◌∙◌, subst, arith}
+use Rattle.std.proofs.Common.{◌≡◌, ℕ, ◌/◌, ◌%◌, ◌^◌, ◌<◌, ◌≤◌, true, T, sym, ap, ◌∙◌, subst, arith, rules}
 use lib.Ieee.{Float, binary64, fits, lt, div, of_bits, to_bits}
 use lib.Ieee.Bits.{of_bits-to_bits}
 use Rattle.root.specs.Root.{root, plus_zero}
@@ -35,7 +35,7 @@ root_pattern-requires c =
     let x = c.args.x in
     let f : T (fits binary64 x) = subst T (sym c.well_formed.0.1) tt in
     let p : 0 < to_bits binary64 x % 2 ^ 52 = subnormal_pos x (to_bits binary64 x) (pattern x f c.if-x.true) (is_above x f c.if-x.true) c.if-e-eq0.true in
-    (p, omega arith, omega arith, omega arith)
+    (omega (arith, p), omega arith, omega arith, omega (arith, p))
 
 pub float_from_bits-result : goal.float_from_bits-result
 float_from_bits-result c = pattern_no_nan c.root_pattern.result c.root_pattern.ensures.1
@@ -45,7 +45,7 @@ returns-then-e-eq0 c =
     let x = c.args.x in
     let f : T (fits binary64 x) = subst T (sym c.well_formed.0.1) tt in
     let b = to_bits binary64 x in
-    c.root_pattern.ensures.0 (b % 2 ^ 52) refl ∙ sym (subnormal x b (pattern x f c.if-x.true) (is_above x f c.if-x.true) c.if-e-eq0.true)
+    c.root_pattern.ensures.0 (b % 2 ^ 52) (omega arith) ∙ sym (subnormal x b (pattern x f c.if-x.true) (is_above x f c.if-x.true) c.if-e-eq0.true)
 
 pub returns-then-e-eq2047 : goal.returns-then-e-eq2047
 returns-then-e-eq2047 c =
@@ -56,28 +56,19 @@ returns-then-e-eq2047 c =
 pub digits-p-requires : goal.digits-p-requires
 digits-p-requires c = normal_high c.args.x (subst T (sym c.well_formed.0.1) tt) c.if-x.true c.if-e-eq2047.false
 
-pub guess-g-requires : goal.guess-g-requires
-guess-g-requires c = normal_high c.args.x (subst T (sym c.well_formed.0.1) tt) c.if-x.true c.if-e-eq2047.false
+pub guess-requires : goal.guess-requires
+guess-requires c = normal_high c.args.x (subst T (sym c.well_formed.0.1) tt) c.if-x.true c.if-e-eq2047.false
 
 pub root_at-requires : goal.root_at-requires
-root_at-requires c = (
-  above_subnormals (to_bits binary64 c.args.x) c.if-e-eq0.false,
-  normal_high c.args.x (subst T (sym c.well_formed.0.1) tt) c.if-x.true c.if-e-eq2047.false,
-  c.nearest_by-n.ensures c.if-n-gt0.true ∙ ap nearest c.digits-p.ensures.0,
-)
-
-pub returns-then-n-gt0 : goal.returns-then-n-gt0
-returns-then-n-gt0 c = c.root_at.ensures ∙ as_read c.args.x (subst T (sym c.well_formed.0.1) tt) c.if-x.true
-
-pub root_at-requires-then-x : goal.root_at-requires-then-x
-root_at-requires-then-x c = (
-  above_subnormals (to_bits binary64 c.args.x) c.if-e-eq0.false,
-  normal_high c.args.x (subst T (sym c.well_formed.0.1) tt) c.if-x.true c.if-e-eq2047.false,
-  c.nearest54.ensures ∙ ap nearest c.digits-p.ensures.0,
-)
+root_at-requires c =
+    let n : c.unwrap_or_else.result ≡ nearest c.digits-p.result = search rules in (
+      above_subnormals (to_bits binary64 c.args.x) c.if-e-eq0.false,
+      normal_high c.args.x (subst T (sym c.well_formed.0.1) tt) c.if-x.true c.if-e-eq2047.false,
+      n ∙ ap nearest c.digits-p.ensures.0,
+    )
 
 pub returns-then-x : goal.returns-then-x
-returns-then-x c = c.root_at-then-x.ensures ∙ as_read c.args.x (subst T (sym c.well_formed.0.1) tt) c.if-x.true
+returns-then-x c = c.root_at.ensures ∙ as_read c.args.x (subst T (sym c.well_formed.0.1) tt) c.if-x.true
 
 pub returns-then-x-2 : goal.returns-then-x-2
 unfolding of_bits

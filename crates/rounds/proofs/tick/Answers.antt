@@ -4,7 +4,7 @@ use Rattle.rounds.proofs.Writing.{rows_front, ticked}
 use Rattle.rounds.proofs.tick.Goals as goal
 
 pub slice_bounds-turn-end : goal.slice_bounds-turn-end
-slice_bounds-turn-end c = sym (rows_front c.args.z c.args.rows.now c.args.cells.now _ c.requires c.start_of-a.ensures)
+slice_bounds-turn-end c = let w = c.args.w.now in sym (rows_front w.size w.rows.now w.cells.now _ w.fits c.start_of-a.ensures)
 
 pub returns : goal.returns
 returns c = search (ticked, rules)

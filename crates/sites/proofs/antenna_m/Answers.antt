@@ -1,17 +1,15 @@
--- `antenna_m`: the two arms are the two cases of `alt_or0`.
-use Rattle.std.proofs.Common.{sym, ap, ◌∙◌, w32, SFits, to_z-of_z, rules}
+-- `antenna_m`: `unwrap_or` is the definition's `alt_or0`.
+use Rattle.std.proofs.Common.{◌≡◌, refl, ap, ◌∙◌, w32, SFits, to_z-of_z, rules, Option, Some, None, ℤ, pos, unwrap_or}
 use Rattle.floats.specs.Horizon.{antenna_of}
 use Rattle.sites.specs.Sites.{alt_or0, antenna}
-use Rattle.sites.specs.declared.Altitude.{Altitude}
 use Rattle.sites.proofs.antenna_m.Goals as goal
 
-pub returns-in-Metres : goal.returns-in-Metres
-unfolding antenna
-returns-in-Metres c =
-    let m = c.in-Metres.m in
-    let fits : SFits w32 m = search rules in
-    c.antenna_m.ensures ∙ ap antenna_of (to_z-of_z fits) ∙ ap (λ (a : Altitude). antenna_of (alt_or0 a)) (sym c.in-Metres.is)
+or0 : (a : Option ℤ) → unwrap_or a (pos 0) ≡ alt_or0 a
+or0 (Some m) = refl
+or0 None = refl
 
-pub returns-in-Unknown : goal.returns-in-Unknown
+pub returns : goal.returns
 unfolding antenna
-returns-in-Unknown c = c.antenna_m-in-Unknown.ensures ∙ ap (λ (a : Altitude). antenna_of (alt_or0 a)) (sym c.in-Unknown.is)
+returns c =
+    let fits : SFits w32 c.unwrap_or.result = search rules in
+    c.antenna_m.ensures ∙ ap antenna_of (to_z-of_z fits ∙ c.unwrap_or.ensures ∙ or0 c.args.s.alt_m)

@@ -1,6 +1,9 @@
 -- The bins, and their sum.
-use Rattle.view.proofs.Views.{far_is}
+use Rattle.std.proofs.Common.{◌∙◌}
+use Rattle.view.proofs.Views.{bins_is, far_is}
 use Rattle.view.proofs.far_view.Goals as goal
 
 pub returns : goal.returns
-returns c = far_is c.args.cells.now c.args.even c.args.odd _ _ c.bins_view-bins.ensures c.positions_in.ensures
+returns c =
+    let s = c.args in
+    far_is s.cells.now s.even s.odd _ _ (c.merged_from-bins.ensures ∙ bins_is s.cells.now s.even s.odd) c.positions_among.ensures.0

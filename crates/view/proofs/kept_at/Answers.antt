@@ -2,10 +2,10 @@
 use Rattle.view.specs.View.{kept}
 use Rattle.view.proofs.kept_at.Goals as goal
 
-pub returns-in-Id : goal.returns-in-Id
+pub returns-in-Some : goal.returns-in-Some
 unfolding kept
-returns-in-Id c = rw c.in-Id.is c.is_recent.ensures
+returns-in-Some c = rw c.in-Some.is c.is_recent.ensures
 
-pub returns-in-Nothing : goal.returns-in-Nothing
+pub returns-in-None : goal.returns-in-None
 unfolding kept
-returns-in-Nothing c = rw c.in-Nothing.is
+returns-in-None c = rw c.in-None.is

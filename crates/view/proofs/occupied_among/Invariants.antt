@@ -1,10 +1,7 @@
 -- The loop counts what `occupied_among` does.
-use Rattle.std.proofs.Common.{◌≡◌, ◌≤◌, ◌-◌, length}
+use Rattle.std.proofs.Common.{◌≡◌, ◌≤◌}
 use Rattle.view.specs.View.{occupied_among}
 use Rattle.view.proofs.occupied_among.Given as goal
 
-abbrev pub invariant-loop-i : goal.invariant-loop-i
-invariant-loop-i l = (l.i ≤ length l.words) × (l.n ≡ occupied_among l.words l.i) × (l.n ≤ l.i)
-
-abbrev pub decreases-loop-i : goal.decreases-loop-i
-decreases-loop-i l = length l.words - l.i
+abbrev pub invariant-loop-w : goal.invariant-loop-w
+invariant-loop-w l = record { count : l.n ≡ occupied_among l.words l.w-index; bound : l.n ≤ l.w-index }

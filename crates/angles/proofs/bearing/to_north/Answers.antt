@@ -6,5 +6,5 @@ use Rattle.angles.proofs.bearing.to_north.Goals as goal
 
 pub returns : goal.returns
 returns c =
-    c.diff.ensures.0
-    ∙ simp (c.part-p.ensures.0, scaled_comm (value c.args.s2) (pos c.args.c1), c.scale-w.ensures.0, c.part-q.ensures.0)
+    c.sub.ensures.0
+    ∙ simp (c.part-p.ensures.0, scaled_comm (value c.args.s2) (pos c.args.c1), c.scale.ensures.0, c.part-q.ensures.0)

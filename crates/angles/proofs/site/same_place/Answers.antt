@@ -13,4 +13,4 @@ returns c =
     let h3 = to_z-of_z w64 c.args.lat2 c.ranges.lat2 in
     let h4 = to_z-of_z w64 c.args.lon2 c.ranges.lon2 in
     let s = c.seen_from-s.ensures in
-    c.at_most_one.ensures ∙ simp (c.haversine_of-h.ensures, c.cos_lat-c1.ensures.0, c.cos_lat-c2.ensures.0, s.0, s.1, s.2, s.3, h1, h2, h3, h4)
+    c.at_most_one.ensures ∙ simp (c.haversine_of-h.ensures, c.cos_lat.ensures.0, c.cos_lat-2.ensures.0, s.0, s.1, s.2, s.3, h1, h2, h3, h4)

@@ -9,8 +9,8 @@ loop-row-init c = (
   omega arith,
   omega arith,
   c.centres_under-end.ensures.0,
-  λ g eh. cells_start g c.args.x c.args.y c.centres_under-row.result c.requires.2
-      (c.centres_under-row.ensures.0 ∙ ap (λ (z : ℕ). under z) c.less.ensures.0),
+  λ g eh. cells_start g c.args.x c.args.y c.centres_under-from.result c.requires.2
+      (c.centres_under-from.ensures.0 ∙ ap (λ (z : ℕ). under z) c.saturating_sub.ensures),
   omega arith,
 )
 

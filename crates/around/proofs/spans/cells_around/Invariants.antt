@@ -1,5 +1,5 @@
 -- After a row n counts the cells of the rows so far.
-use Rattle.std.proofs.Common.{◌-◌, ◌≡◌, ◌+◌, ◌*◌, ◌≤◌, ℕ, List}
+use Rattle.std.proofs.Common.{◌≡◌, ◌+◌, ◌*◌, ◌≤◌, ℕ, List}
 use Rattle.cells.specs.Passes.{how_many}
 use Rattle.around.specs.Marks.{near}
 use Rattle.around.specs.Counts.{counts_of, under}
@@ -9,6 +9,3 @@ abbrev pub invariant-loop-row : goal.invariant-loop-row
 invariant-loop-row l =
     (l.y ≤ 2 * l.row + 11) × (l.row ≤ l.end) × (l.end ≡ under (l.y + 11))
     × ((g : List ℕ) → l.heard ≡ counts_of g → l.n ≡ how_many (near g l.x l.y) (40 * l.row)) × (l.n ≤ 40 * l.row)
-
-abbrev pub decreases-loop-row : goal.decreases-loop-row
-decreases-loop-row l = l.end - l.row

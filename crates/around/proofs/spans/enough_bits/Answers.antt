@@ -10,8 +10,8 @@ loop-row-init c = (
   omega arith,
   omega arith,
   c.centres_under-end.ensures.0,
-  bits_start c.args.grid.now c.args.x c.args.y c.centres_under-row.result c.requires.1
-      (c.centres_under-row.ensures.0 ∙ ap (λ (z : ℕ). under z) c.less.ensures.0),
+  bits_start c.args.grid.now c.args.x c.args.y c.centres_under-from.result c.requires.1
+      (c.centres_under-from.ensures.0 ∙ ap (λ (z : ℕ). under z) c.saturating_sub.ensures),
   omega (arith, ones_zero),
 )
 

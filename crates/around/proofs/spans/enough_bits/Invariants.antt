@@ -1,5 +1,5 @@
 -- After a row the bits are those of the rows so far, and fewer than eight.
-use Rattle.std.proofs.Common.{◌-◌, ◌≡◌, ◌+◌, ◌*◌, ◌≤◌, ◌<◌}
+use Rattle.std.proofs.Common.{◌≡◌, ◌+◌, ◌*◌, ◌≤◌, ◌<◌}
 use Rattle.std.specs.Int.Count.{ones}
 use Rattle.around.specs.Marks.{bits_in, near}
 use Rattle.around.specs.Counts.{under}
@@ -9,6 +9,3 @@ abbrev pub invariant-loop-row : goal.invariant-loop-row
 invariant-loop-row l =
     (l.y ≤ 2 * l.row + 11) × (l.row ≤ l.end) × (l.end ≡ under (l.y + 11))
     × (l.bits ≡ bits_in (near l.grid l.x l.y) l.grid (40 * l.row)) × (ones l.bits < 8)
-
-abbrev pub decreases-loop-row : goal.decreases-loop-row
-decreases-loop-row l = l.end - l.row

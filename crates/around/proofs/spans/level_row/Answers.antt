@@ -9,5 +9,5 @@ returns c =
     λ g eh em.
     let s = c.args in
     two_spans _ _ _ _ _ _ _ _ _ _ _ _ _ _ c.span-a.ensures c.span.ensures
-    (c.cut.ensures.0 ∙ ap (cut_at s.row) c.less.ensures.0) c.cut-2.ensures.0 c.cut-3.ensures.0 c.cut-4.ensures.0
+    (c.cut.ensures.0 ∙ ap (cut_at s.row) c.saturating_sub.ensures) c.cut-2.ensures.0 c.cut-3.ensures.0 c.cut-4.ensures.0
     ∙ own_row g s.x s.row c.reach-h.result c.requires.0 c.requires.1 c.reach-h.ensures c.requires.2 s.heard.now eh s.marks em

@@ -1,5 +1,5 @@
 -- After a row the marks are those of the rows so far.
-use Rattle.std.proofs.Common.{◌-◌, ◌≡◌, ◌+◌, ◌*◌, ◌≤◌, ℕ, List}
+use Rattle.std.proofs.Common.{◌≡◌, ◌+◌, ◌*◌, ◌≤◌, ℕ, List}
 use Rattle.around.specs.Marks.{marks_of}
 use Rattle.around.specs.Counts.{counts_of, under}
 use Rattle.around.proofs.spans.marks_around.Given as goal
@@ -8,6 +8,3 @@ abbrev pub invariant-loop-row : goal.invariant-loop-row
 invariant-loop-row l =
     (l.y ≤ 2 * l.row + 11) × (l.row ≤ l.end) × (l.end ≡ under (l.y + 11))
     × ((g : List ℕ) → l.heard ≡ counts_of g → l.m ≡ marks_of g l.x l.y (40 * l.row))
-
-abbrev pub decreases-loop-row : goal.decreases-loop-row
-decreases-loop-row l = l.end - l.row

@@ -8,6 +8,3 @@ abbrev pub invariant-loop-i : goal.invariant-loop-i
 invariant-loop-i l =
     (l.i ≤ l.end) × (l.end ≡ cut_at l.row (l.x + l.h + 1)) × (l.end ≤ 1600) × (cut_at l.row (l.x - l.h) ≤ l.i)
     × (l.out ≡ bits_in (near l.grid l.x l.y) l.grid l.i)
-
-abbrev pub decreases-loop-i : goal.decreases-loop-i
-decreases-loop-i l = l.end - l.i

@@ -9,10 +9,10 @@ returns c =
     λ g eh em.
     let s = c.args in
     four_spans _ _ _ _ _ _ _ _ _ _ _ _ _ _ _ _ _ _ _ _ c.span-a.ensures c.span-b.ensures c.span-c.ensures c.span.ensures
-    (c.cut-west.ensures.0 ∙ ap (cut_at s.row) c.less.ensures.0)
-    (c.cut-south_west.ensures.0 ∙ ap (cut_at s.row) (c.less-2.ensures.0 ∙ ap (λ (z : ℕ). s.x + 1 - z) c.lesser.ensures.0))
+    (c.cut-west.ensures.0 ∙ ap (cut_at s.row) c.saturating_sub.ensures)
+    (c.cut-south_west.ensures.0 ∙ ap (cut_at s.row) (c.saturating_sub-2.ensures ∙ ap (λ (z : ℕ). s.x + 1 - z) c.min.ensures))
     c.cut-south.ensures.0
-    (c.cut-south_east.ensures.0 ∙ ap (λ (z : ℕ). cut_at s.row (s.x + z + 1)) c.lesser-2.ensures.0)
+    (c.cut-south_east.ensures.0 ∙ ap (λ (z : ℕ). cut_at s.row (s.x + z + 1)) c.min-2.ensures)
     c.cut-east.ensures.0
-    ∙ south_marks g s.x s.y s.row c.between-m.result c.reach-h.result c.requires.0 c.requires.1 c.between-m.ensures c.reach-h.ensures
+    ∙ south_marks g s.x s.y s.row c.row_off-m.result c.reach-h.result c.requires.0 c.requires.1 c.row_off-m.ensures c.reach-h.ensures
     s.heard.now eh c.requires.2 s.marks c.requires.3 em

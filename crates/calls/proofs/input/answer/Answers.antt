@@ -1,12 +1,15 @@
 -- The line's answer stands whole in the buffer, and a tick's behind it.
-use Rattle.std.proofs.Common.{rules}
+use Rattle.std.proofs.Common.{◌≡◌, ℕ, List, subst, sym}
+use Rattle.print.specs.Print.{put_in}
 use Rattle.calls.proofs.Came.{answered_is}
 use Rattle.calls.proofs.input.answer.Goals as goal
 
-pub returns : goal.returns
-returns g c =
-    let a = c.args in (
-      answered_is a.line a.bytes.now a.number a.z a.rows.now a.cells.now a.ends.now a.out.now _ _ _ _ _ a.n c.room-at.result c.put_told-m.result c.put_line-end.result c.tell-told.result
-          c.read-said.result c.tell-told.ensures.0 c.room-at.ensures.left c.requires.1 c.put_told-m.ensures.0 c.put_told-m.ensures.1 c.read-said.ensures c.put_line-end.ensures,
-      search rules,
-    )
+pub returns-clause-answered : goal.returns-clause-answered
+returns-clause-answered g c =
+    let o = c.args.out.now in
+    let w = c.args.w.now in
+    let v = c.tell-reply.new.w in
+    let kept = c.room.ensures.kept in
+    answered_is c.args.line c.args.bytes.now o.lines w.size w.rows.now w.cells.now w.ends.now o.buf.now o.n v.size v.rows.now v.cells.now v.ends.now _ _ _ _ _ c.tell-reply.result c.read-asked.result
+    c.read-asked.ensures c.tell-reply.ensures.comes c.room.ensures.left o.large
+    (rw (kept.0, kept.1) at c.put_reply-end.ensures.0) (rw (kept.0, kept.1) at c.put_reply-end.ensures.1) c.tick-out.ensures

@@ -1,19 +1,14 @@
--- At first no bytes wait, and the watch is a fresh one of one row.
-use Rattle.std.proofs.Common.{◌≡◌, ℕ, List, refl, arith, rules}
-use Rattle.lines.specs.Lines.{Within, start_of}
-use Rattle.lines.specs.declared.Input.{Input}
-use Rattle.calls.proofs.Came.{opened_lent}
+-- At first nothing is written; each turn writes what its step says.
+use Rattle.calls.specs.Turns.{held}
+use Rattle.calls.proofs.Came.{going_start, going_more}
 use Rattle.calls.proofs.input.run.Goals as goal
 
-none_waits : (s : Input) (buf : List ℕ) → s ≡ start_of → Within s buf
-none_waits s buf e = rw e (omega arith, omega arith)
-
 pub loop-init : goal.loop-init
-loop-init g c = (
-  none_waits c.start.result c.args.buf.now c.start.ensures,
-  search (opened_lent, rules),
-  search rules,
-  search rules,
-  refl,
-  refl,
+loop-init g c = (going_start _ _ _, c.watch.ensures.room)
+
+pub loop-preserved : goal.loop-preserved
+loop-preserved g c = (
+  going_more g.W.Write.contents c.loop.out.to c.step.new.out.to c.step.ensures.failed (held c.args.list.now c.watch.new.w c.args.out.now) (held c.loop.list c.loop.w c.loop.out) (held c.step.new.list c.step.new.w c.step.new.out) _
+      c.loop.invariant.0 c.step.ensures.stepped c.step.ensures.written,
+  c.step.ensures.room,
 )

@@ -1,10 +1,11 @@
--- The bytes that wait lie within the buffer, the watch within what is lent, and all that is lent keeps its length.
-use Rattle.std.proofs.Common.{◌≡◌, length}
-use Rattle.lines.specs.Lines.{Within}
-use Rattle.calls.specs.Inputs.{Lent}
+-- The turns since the first, and what they have written; what is lent keeps its room.
+use Rattle.lines.specs.Streams.{held_by, sink_failed}
+use Rattle.lending.specs.Lendings.{Room}
+use Rattle.calls.specs.Turns.{held}
+use Rattle.calls.proofs.Came.{Going}
 use Rattle.calls.proofs.input.run.Given as goal
 
 abbrev pub invariant-loop : goal.invariant-loop
 invariant-loop g l =
-    (Within l.s.input l.buf) × (Lent l.s.size l.rows l.cells) × (length l.rows ≡ length l.fn.rows) × (length l.cells ≡ length l.fn.cells)
-    × (length l.buf ≡ length l.fn.buf) × (length l.out ≡ length l.fn.out)
+    Going (held l.initial.list l.initial.w l.initial.out) (held l.list l.w l.out) (held_by g.W.Write.contents l.initial.out.to) (held_by g.W.Write.contents l.out.to) (sink_failed l.out.to)
+    × Room l.w.rows.now l.w.cells.now

@@ -1,14 +1,13 @@
 -- `past_by`: the test is the definition's, on what `allowance_km` gives.
-use Rattle.std.proofs.Common.{◌≡◌, Bool, true, false, cond, sym, ap, ◌∙◌}
+use Rattle.std.proofs.Common.{◌≡◌, Bool, true, false, cond, sym, ap, ◌∙◌, Some, None}
 use lib.Ieee.{Float, binary64, sub, lt}
 use Rattle.floats.specs.Rooted.{allowance_from, past_from}
-use Rattle.floats.specs.declared.horizon.Past.TheVariants.{By, No}
 use Rattle.floats.proofs.horizon.past_by.Goals as goal
 
 -- the enum by the test's answer
-by_test : (edge a r s : Float) (b : Bool) → r ≡ allowance_from a s → lt r edge ≡ b → cond b (By (sub binary64 edge r)) No ≡ past_from edge a s
+by_test : (edge a r s : Float) (b : Bool) → r ≡ allowance_from a s → lt r edge ≡ b → cond b (Some (sub binary64 edge r)) None ≡ past_from edge a s
 unfolding past_from
-by_test edge a r s b e t = sym (ap (λ (v : Float). cond (lt v edge) (By (sub binary64 edge v)) No) (sym e) ∙ ap (λ (u : Bool). cond u (By (sub binary64 edge r)) No) t)
+by_test edge a r s b e t = sym (ap (λ (v : Float). cond (lt v edge) (Some (sub binary64 edge v)) None) (sym e) ∙ ap (λ (u : Bool). cond u (Some (sub binary64 edge r)) None) t)
 
 pub returns-then-edge_km-allowed : goal.returns-then-edge_km-allowed
 returns-then-edge_km-allowed c =

@@ -3,8 +3,8 @@ use Rattle.std.proofs.Common.{rules}
 use Rattle.lending.proofs.Mixing.{site_mixed, no_site}
 use Rattle.lending.proofs.digest.mix_site.Goals as goal
 
-pub returns-in-At : goal.returns-in-At
-returns-in-At c = search (site_mixed, rules)
+pub returns-in-Some : goal.returns-in-Some
+returns-in-Some c = search (site_mixed, rules)
 
-pub returns-in-Nowhere : goal.returns-in-Nowhere
-returns-in-Nowhere c = search (no_site, rules)
+pub returns-in-None : goal.returns-in-None
+returns-in-None c = search (no_site, rules)

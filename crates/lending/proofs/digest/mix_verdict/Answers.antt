@@ -3,5 +3,5 @@ use Rattle.std.proofs.Common.{rules}
 use Rattle.lending.proofs.Mixing.{no_verdict}
 use Rattle.lending.proofs.digest.mix_verdict.Goals as goal
 
-pub returns-in-Never : goal.returns-in-Never
-returns-in-Never c = search (no_verdict, rules)
+pub returns-in-None : goal.returns-in-None
+returns-in-None c = search (no_verdict, rules)

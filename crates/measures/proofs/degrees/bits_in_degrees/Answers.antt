@@ -23,4 +23,4 @@ pub returns-then-lat-le4636033603912859648 : goal.returns-then-lat-le46360336039
 returns-then-lat-le4636033603912859648 c = first_in c.args.lat c.args.lon c.if-lat-le4636033603912859648.true
 
 pub returns-else-lat-le4636033603912859648 : goal.returns-else-lat-le4636033603912859648
-returns-else-lat-le4636033603912859648 c = first_out c.args.lat c.args.lon c.if-lat-le4636033603912859648.false
+returns-else-lat-le4636033603912859648 c = lt-leb _ _ c.if-lat-le4636033603912859648.false ∙ first_out c.args.lat c.args.lon c.if-lat-le4636033603912859648.false

@@ -1,20 +1,48 @@
 -- A cell more is `best_step` and `best_cells`.
-use Rattle.std.proofs.Common.{◌≡◌, refl, arith, rules}
+use Rattle.std.proofs.Common.{◌≡◌, ◌<◌, ◌≤◌, ℕ, Option, Some, unwrap_or, IfSome, refl, sym, subst, cond, arith, rules}
+use Rattle.std.proofs.Math.Dec.{ltb}
+use Rattle.std.proofs.lemmas.Bool.{lt-ltb, le-ltb}
 use Rattle.near_field.proofs.Found.{best_none, best_step, best_cells}
 use Rattle.near_field.proofs.near.best_cell.Goals as goal
+use Rattle.near_field.proofs.near.best_cell.Goals.{then-most-n, else-most-n}
+
+-- what a better cell, and one that is not, leaves
+now_better : (b b' : Option ℕ) (i m n : ℕ) → b' ≡ Some i → m < n → unwrap_or b' 1600 ≡ cond (ltb m n) i (unwrap_or b 1600)
+now_better b b' i m n e h = rw (e, lt-ltb m n h)
+
+not_better : (b b' : Option ℕ) (i m n : ℕ) → b' ≡ b → n ≤ m → unwrap_or b' 1600 ≡ cond (ltb m n) i (unwrap_or b 1600)
+not_better b b' i m n e h = rw (e, le-ltb m n h)
+
+now_most : (m m' n : ℕ) → m' ≡ n → m < n → m' ≡ cond (ltb m n) n m
+now_most m m' n e h = rw (e, lt-ltb m n h)
+
+still_most : (m m' n : ℕ) → m' ≡ m → n ≤ m → m' ≡ cond (ltb m n) n m
+still_most m m' n e h = rw (e, le-ltb m n h)
 
 pub loop-i-init : goal.loop-i-init
-loop-i-init c = (search rules, best_none _, refl)
+loop-i-init c = record { at = best_none _; cells = refl; below = search rules }
 
 pub loop-i-preserved : goal.loop-i-preserved
 loop-i-preserved c =
     let l = c.loop-i in
     let g = c.args.grid.now in
-    let b = c.or_better-b in (
-      search rules,
-      best_step g l.i l.b.at l.b.cells _ b.result.at (omega arith) l.invariant.1 l.invariant.2 c.found_cells.ensures b.ensures.0,
-      best_cells g l.i l.b.at l.b.cells _ b.result.at b.result.cells (omega arith) l.invariant.2 c.found_cells.ensures b.ensures.0 b.ensures.1,
-    )
-
-pub returns : goal.returns
-returns c = let l = c.loop-i in let e : l.i ≡ 1600 = omega arith in rw e at l.invariant.1
+    let b = c.if-most-n.best in
+    let n = c.found_cells-n.result in
+    let at = unwrap_or l.best 1600 in
+    let lt : l.i < 1600 = omega arith in
+    elim c.if-most-n.branch [
+      | then-most-n w ↦
+          let e = now_better l.best b l.i l.most n w.best-is w.if-most-n.true in
+          record {
+            at = best_step g l.i at l.most n (unwrap_or b 1600) lt l.invariant.at l.invariant.cells c.found_cells-n.ensures e;
+            cells = best_cells g l.i at l.most n (unwrap_or b 1600) _ lt l.invariant.cells c.found_cells-n.ensures e (now_most l.most _ n w.most-is w.if-most-n.true);
+            below = subst (λ (o : Option ℕ). IfSome o (λ k. k < 1600)) (sym w.best-is) lt;
+          }
+      | else-most-n w ↦
+          let e = not_better l.best b l.i l.most n w.best-is w.if-most-n.false in
+          record {
+            at = best_step g l.i at l.most n (unwrap_or b 1600) lt l.invariant.at l.invariant.cells c.found_cells-n.ensures e;
+            cells = best_cells g l.i at l.most n (unwrap_or b 1600) _ lt l.invariant.cells c.found_cells-n.ensures e (still_most l.most _ n w.most-is w.if-most-n.false);
+            below = subst (λ (o : Option ℕ). IfSome o (λ k. k < 1600)) (sym w.best-is) l.invariant.below;
+          }
+    ]

@@ -1,30 +1,50 @@
 -- A cell more is `sum_step`, of each of the three sums.
-use Rattle.std.proofs.Common.{◌≡◌, ℕ, refl, sym, arith, rules}
+use Rattle.std.proofs.Common.{◌≡◌, ℕ, ◌+◌, ◌∙◌, Bool, true, false, refl, sym, arith, rules}
+use Rattle.cells.specs.Passes.{sum_of}
 use Rattle.cells.proofs.Passes.{pass_none, sum_step}
 use Rattle.plane.specs.Plane.{east_of, north_of}
-use Rattle.plane.proofs.Same.{part_of}
 use Rattle.near_field.specs.Near.{member}
 use Rattle.near_field.proofs.near.group_of.Goals as goal
+use Rattle.near_field.proofs.near.group_of.Goals.{then-is_member, else-is_member}
+
+-- one that is a member, and one that is not
+module _ (p : ℕ → Bool) (f : ℕ → ℕ) (n k : ℕ) (e : n ≡ sum_of p f k) where
+  inside : (r m : ℕ) → p k ≡ true → r ≡ f k → m ≡ n + r → m ≡ sum_of p f (k + 1)
+  inside r m h q w = w ∙ sum_step p f n r k e (rw h q)
+
+  outside : (m : ℕ) → p k ≡ false → m ≡ n → m ≡ sum_of p f (k + 1)
+  outside m h w = w ∙ (let z : n ≡ n + 0 = omega arith in z) ∙ sum_step p f n 0 k e (rw h)
 
 pub loop-i-init : goal.loop-i-init
-loop-i-init c = (search rules, sym (pass_none _ 0), sym (pass_none _ 0), sym (pass_none _ 0), search rules, search rules, search rules)
+loop-i-init c = (sym (pass_none _ 0), sym (pass_none _ 0), sym (pass_none _ 0), search rules, search rules, search rules)
 
 pub loop-i-preserved : goal.loop-i-preserved
 loop-i-preserved c =
     let l = c.loop-i in
     let p = member c.args.grid.now c.args.best in
-    let yes = c.is_member-yes.ensures in (
-      search rules,
-      sum_step p (λ (j : ℕ). 1) l.n c.part-n.result l.i l.invariant.1 (part_of c.part-n.ensures.0 yes refl),
-      sum_step p east_of l.east c.part-east.result l.i l.invariant.2 (part_of c.part-east.ensures.0 yes c.east_of.ensures),
-      sum_step p north_of l.north c.part-north.result l.i l.invariant.3 (part_of c.part-north.ensures.0 yes c.north_of.ensures),
-      omega arith,
-      omega arith,
-      omega arith,
-    )
+    elim c.if-is_member.branch [
+      | then-is_member w ↦
+          let yes = sym c.is_member.ensures ∙ w.if-is_member.true in (
+            inside p (λ (j : ℕ). 1) l.n l.i l.invariant.0 1 _ yes refl w.n-is,
+            inside p east_of l.east l.i l.invariant.1 _ _ yes w.east_of-east.ensures w.east-is,
+            inside p north_of l.north l.i l.invariant.2 _ _ yes w.north_of-north.ensures w.north-is,
+            omega arith,
+            omega arith,
+            omega arith,
+          )
+      | else-is_member w ↦
+          let no = sym c.is_member.ensures ∙ w.if-is_member.false in (
+            outside p (λ (j : ℕ). 1) l.n l.i l.invariant.0 _ no w.n-is,
+            outside p east_of l.east l.i l.invariant.1 _ no w.east-is,
+            outside p north_of l.north l.i l.invariant.2 _ no w.north-is,
+            omega arith,
+            omega arith,
+            omega arith,
+          )
+    ]
 
 pub returns : goal.returns
 returns c =
     let l = c.loop-i in
     let e : l.i ≡ 1600 = omega arith in
-    (rw e at l.invariant.1, rw e at l.invariant.2, rw e at l.invariant.3, omega arith, omega arith, omega arith)
+    (rw e at l.invariant.0, rw e at l.invariant.1, rw e at l.invariant.2, omega arith, omega arith, omega arith)

@@ -1,5 +1,5 @@
 -- After i cells the sums are those of the members among the first i.
-use Rattle.std.proofs.Common.{◌≡◌, ◌-◌, ◌*◌, ◌≤◌}
+use Rattle.std.proofs.Common.{◌≡◌, ◌*◌, ◌≤◌}
 use Rattle.cells.specs.Passes.{how_many, sum_of}
 use Rattle.plane.specs.Plane.{east_of, north_of}
 use Rattle.near_field.specs.Near.{member}
@@ -7,8 +7,5 @@ use Rattle.near_field.proofs.near.group_of.Given as goal
 
 abbrev pub invariant-loop-i : goal.invariant-loop-i
 invariant-loop-i l =
-    (l.i ≤ 1600) × (l.n ≡ how_many (member l.grid l.best) l.i) × (l.east ≡ sum_of (member l.grid l.best) east_of l.i)
+    (l.n ≡ how_many (member l.grid l.best) l.i) × (l.east ≡ sum_of (member l.grid l.best) east_of l.i)
     × (l.north ≡ sum_of (member l.grid l.best) north_of l.i) × (l.n ≤ l.i) × (l.east ≤ 79 * l.i) × (l.north ≤ 79 * l.i)
-
-abbrev pub decreases-loop-i : goal.decreases-loop-i
-decreases-loop-i l = 1600 - l.i

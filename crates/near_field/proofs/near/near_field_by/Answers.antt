@@ -1,9 +1,9 @@
 -- In order: each answer is a law of Judged, told by the tests that came before it.
-use Rattle.std.proofs.Common.{◌≡◌, ℕ, List, sym, ap, ◌∙◌, rules}
+use Rattle.std.proofs.Common.{◌≡◌, ◌<◌, ℕ, List, arith, sym, ap, ◌∙◌, rules}
 use Rattle.around.specs.declared.Nearby.{Nearby}
 use Rattle.around.specs.Marks.{around_of, sectors_in}
 use Rattle.near_field.specs.Near.{best_or_none}
-use Rattle.near_field.proofs.Judged.{nf_fits, nf_four, nf_inside, nf_hole, nf_rest, no_best, a_best, best_below}
+use Rattle.near_field.proofs.Judged.{nf_fits, nf_four, nf_inside, nf_hole, nf_rest, no_best, a_best}
 use Rattle.near_field.proofs.near.near_field_by.Goals as goal
 
 -- the sectors around the site
@@ -11,38 +11,42 @@ many : {s : ℕ} {a : Nearby} (g : List ℕ) → s ≡ sectors_in a.marks → a 
 many g p q = p ∙ ap (λ (a : Nearby). sectors_in a.marks) q
 
 pub returns-then-s-ge5 : goal.returns-then-s-ge5
-returns-then-s-ge5 c = let s = c.args in nf_fits s.scale s.grid.now _ (many {a = c.around-a.result} s.grid.now c.sectors-s.ensures.0 c.around-a.ensures) s.outside c.if-s-ge5.true
+returns-then-s-ge5 c = let s = c.args in nf_fits s.scale s.grid.now _ (many {a = c.around.result} s.grid.now c.sectors-s.ensures.0 c.around.ensures) s.outside c.if-s-ge5.true
 
 pub returns-then-s-gt3 : goal.returns-then-s-gt3
 returns-then-s-gt3 c =
     let s = c.args in
-    nf_four s.scale s.grid.now _ (many {a = c.around-a.result} s.grid.now c.sectors-s.ensures.0 c.around-a.ensures) s.outside c.if-s-ge5.false c.if-s-gt3.true
+    nf_four s.scale s.grid.now _ (many {a = c.around.result} s.grid.now c.sectors-s.ensures.0 c.around.ensures) s.outside c.if-s-ge5.false c.if-s-gt3.true
 
 pub returns-then-not-outside : goal.returns-then-not-outside
 returns-then-not-outside c =
     let s = c.args in
-    nf_inside s.scale s.grid.now _ (many {a = c.around-a.result} s.grid.now c.sectors-s.ensures.0 c.around-a.ensures) s.outside c.if-s-ge5.false c.if-s-gt3.false
+    nf_inside s.scale s.grid.now _ (many {a = c.around.result} s.grid.now c.sectors-s.ensures.0 c.around.ensures) s.outside c.if-s-ge5.false c.if-s-gt3.false
     c.if-not-outside.true
 
 pub returns-then-no_hole : goal.returns-then-no_hole
 returns-then-no_hole c =
     let s = c.args in
-    nf_hole s.scale s.grid.now _ (many {a = c.around-a.result} s.grid.now c.sectors-s.ensures.0 c.around-a.ensures) s.outside c.if-s-ge5.false c.if-s-gt3.false
+    nf_hole s.scale s.grid.now _ (many {a = c.around.result} s.grid.now c.sectors-s.ensures.0 c.around.ensures) s.outside c.if-s-ge5.false c.if-s-gt3.false
     c.if-not-outside.false (sym c.no_hole.ensures ∙ c.if-no_hole.true)
 
-pub returns-then-best-eq1600 : goal.returns-then-best-eq1600
-returns-then-best-eq1600 c =
+-- a cell below 1,600 is not 1,600
+below : (b : ℕ) → b < 1600 → b ≡ 1600 → ⊥
+below b l e = omega arith
+
+pub returns-in-None : goal.returns-in-None
+returns-in-None c =
     let s = c.args in
-    no_best s.scale s.grid.now _ (sym c.best_cell-best.ensures ∙ c.if-best-eq1600.true)
-    ∙ nf_rest s.scale s.grid.now _ (many {a = c.around-a.result} s.grid.now c.sectors-s.ensures.0 c.around-a.ensures) s.outside c.if-s-ge5.false c.if-s-gt3.false
+    no_best s.scale s.grid.now _ (sym c.in-None.ensures.0)
+    ∙ nf_rest s.scale s.grid.now _ (many {a = c.around.result} s.grid.now c.sectors-s.ensures.0 c.around.ensures) s.outside c.if-s-ge5.false c.if-s-gt3.false
     c.if-not-outside.false (sym c.no_hole.ensures ∙ c.if-no_hole.false)
 
 pub found_at-requires : goal.found_at-requires
-found_at-requires c = (best_below c.args.grid.now _ c.best_cell-best.ensures c.if-best-eq1600.false, search rules, c.heard_before-heard.ensures)
+found_at-requires c = (c.in-Some.ensures.1, search rules, c.heard_before-heard.ensures)
 
-pub returns : goal.returns
-returns c =
+pub returns-in-Some : goal.returns-in-Some
+returns-in-Some c =
     let s = c.args in
-    c.found_at.ensures ∙ a_best s.scale s.grid.now _ c.if-best-eq1600.false ∙ ap (best_or_none s.scale s.grid.now) c.best_cell-best.ensures
-    ∙ nf_rest s.scale s.grid.now _ (many {a = c.around-a.result} s.grid.now c.sectors-s.ensures.0 c.around-a.ensures) s.outside c.if-s-ge5.false c.if-s-gt3.false
+    c.found_at.ensures ∙ a_best s.scale s.grid.now _ (below _ c.in-Some.ensures.1) ∙ ap (best_or_none s.scale s.grid.now) c.in-Some.ensures.0
+    ∙ nf_rest s.scale s.grid.now _ (many {a = c.around.result} s.grid.now c.sectors-s.ensures.0 c.around.ensures) s.outside c.if-s-ge5.false c.if-s-gt3.false
     c.if-not-outside.false (sym c.no_hole.ensures ∙ c.if-no_hole.false)

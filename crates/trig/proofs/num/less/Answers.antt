@@ -9,4 +9,4 @@ returns c =
     let d = read_less c.args.a c.args.b c.ranges.a c.ranges.b in
     let e : to_z w64 (of_z w64 (to_z w64 (of_z w64 c.args.a) -ℤ to_z w64 (of_z w64 c.args.b))) ≡ c.args.a -ℤ c.args.b =
     rw d (to_z-of_z w64 _ (small_fits (c.args.a -ℤ c.args.b) (omega (arith, size_sub c.args.a c.args.b)))) in
-    (c.split.ensures.0 ∙ e, omega (arith, ap nat_abs e, size_sub c.args.a c.args.b))
+    (c.from.ensures.0 ∙ e, omega (arith, ap nat_abs e, size_sub c.args.a c.args.b))

@@ -1,9 +1,18 @@
--- The seven calls are the seven turns of the sum.
-use Rattle.std.proofs.Common.{◌∙◌, arith}
-use Rattle.trig.specs.Series.{cos_r}
+-- `cos_r`: no turn is left at the end.
+use Rattle.std.proofs.Common.{◌≡◌, ℕ, ◌-◌, ◌^◌, ◌≤◌, sym, ap, ◌∙◌, arith}
+use Rattle.trig.specs.Series.{cos_sum, cos_r}
 use Rattle.trig.proofs.series.cos_r.Goals as goal
+
+none_left : (z k s : ℕ) → k ≤ 1 → cos_sum z (k - 1) s ≡ s
+none_left z k s h = ap (λ (j : ℕ). cos_sum z j s) (last k h)
+  where
+    last : (k : ℕ) → k ≤ 1 → k - 1 ≡ 0
+    last k h = omega arith
 
 pub returns : goal.returns
 unfolding cos_r
 returns c =
-    (c.one_term.ensures.0 ∙ simp (c.one_term-c2.ensures.0, c.one_term-c3.ensures.0, c.one_term-c4.ensures.0, c.one_term-c5.ensures.0, c.one_term-c6.ensures.0, c.one_term-c7.ensures.0, c.mul30-z.ensures.0), omega arith)
+    let l = c.loop-k in
+    let z = c.mul30-z.result in
+    let e : l.c ≡ cos_sum z 7 (2 ^ 30) = sym (none_left z l.k l.c (omega (arith, c.loop-k-test.false))) ∙ l.invariant.2 in
+    (rw (sym c.mul30-z.ensures.0) e, l.invariant.1)

@@ -1,9 +1,18 @@
--- The six calls are the six turns of the sum.
-use Rattle.std.proofs.Common.{◌∙◌, arith}
-use Rattle.trig.specs.Series.{sin_h}
+-- `sin_h`: no turn is left at the end.
+use Rattle.std.proofs.Common.{◌≡◌, ℕ, ◌-◌, ◌^◌, ◌≤◌, sym, ap, ◌∙◌, arith}
+use Rattle.trig.specs.Series.{sin_sum, sin_h}
 use Rattle.trig.proofs.series.sin_h.Goals as goal
+
+none_left : (z k s : ℕ) → k ≤ 1 → sin_sum z (k - 1) s ≡ s
+none_left z k s h = ap (λ (j : ℕ). sin_sum z j s) (last k h)
+  where
+    last : (k : ℕ) → k ≤ 1 → k - 1 ≡ 0
+    last k h = omega arith
 
 pub returns : goal.returns
 unfolding sin_h
 returns c =
-    (c.mul30.ensures.0 ∙ simp (c.one_term-s1.ensures.0, c.one_term-s2.ensures.0, c.one_term-s3.ensures.0, c.one_term-s4.ensures.0, c.one_term-s5.ensures.0, c.one_term-s6.ensures.0, c.mul30-z.ensures.0), omega arith)
+    let l = c.loop-k in
+    let z = c.mul30-z.result in
+    let e : l.s ≡ sin_sum z 6 (2 ^ 30) = sym (none_left z l.k l.s (omega (arith, c.loop-k-test.false))) ∙ l.invariant.2 in
+    (c.mul30.ensures.0 ∙ simp (e, c.mul30-z.ensures.0), omega arith)

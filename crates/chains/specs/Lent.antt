@@ -1,0 +1,35 @@
+-- What a call leaves in lent rows, by its answer, and the two laws that each form of them meets: a refusal leaves what was there, and an accepted call leaves rows
+-- that pass question 2. Definitions, and the laws of records and of words.
+use Rattle.std.specs.Prelude.{◌≡◌, ℕ, ◌≤◌, true, List, Option, map, length, refl}
+use Rattle.std.proofs.Common.{sym, arith}
+use Rattle.table.specs.Machine as M
+use Rattle.table.specs.Machine.{Answer, refused, said}
+use Rattle.table.specs.Questions.{all_sound}
+use Rattle.receiver.specs.Calls.{Out}
+use Rattle.rows.specs.Read.{form, row_is}
+use Rattle.rows.specs.declared.Row.{Row}
+use Rattle.flat.specs.Table.{rows_of, Left}
+use Rattle.flat.proofs.Closed.{all_closed}
+
+pub record LeftLaws {X : Type 0} (rows_in : List X → List Row) (left : Answer Out → List X → List X → Type 0) : Type 0 where
+  pub leaves : (n : ℕ) (xs : List X) → left (refused n) xs xs
+  pub keeps : (pushed : Option M.Key) (out : Out) (xs ys : List X) → 1 ≤ length (rows_in ys) → all_sound form.sound (map row_is (rows_in ys)) ≡ true → left (said pushed out) xs ys
+
+-- Of records: refused, those before; accepted, those that the call's equation says.
+abbrev pub LeftRows : Answer Out → List Row → List Row → Type 0
+LeftRows (refused n) before after = after ≡ before
+LeftRows (said pushed out) before after = Unit {0}
+
+abbrev pub same_rows : List Row → List Row
+same_rows xs = xs
+
+pub rows_left : LeftLaws same_rows LeftRows
+rows_left = record { leaves = λ n xs. refl; keeps = λ pushed out xs ys some sound. tt }
+
+pub words_left : LeftLaws rows_of Left
+unfolding Left
+words_left = record { leaves = λ n xs. refl; keeps = λ pushed out xs ys some sound. sym (all_closed ys some sound) }
+
+-- a row's number has 32 bits
+pub few_numbers : (n : ℕ) → n ≤ 4096 → n ≤ 4294967296
+few_numbers n few = omega arith
