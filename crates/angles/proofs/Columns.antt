@@ -53,12 +53,6 @@ from_site_lem n = ap (λ (k : ℕ). k / 78125) (further n) ∙ div-div-eq-div-mu
 
 -- ---- one step of n columns
 
-pub no_room : (v n : ℕ) → v < n * 5000000 → v / 64 < n * 78125
-no_room v n h = omega arith
-
-pub fits : (v n : ℕ) → n * 5000000 ≤ v → n * 5000000 - n ≤ v
-fits v n h = omega arith
-
 -- n columns fit, of a number that is a × 64 + c
 module _ (v n a c : ℕ) (e : v ≡ a * 64 + c) (h : c < 40) (k : n ≤ 16) (fit : n * 5000000 ≤ v) where
   reach : n * 78125 ≤ a

@@ -1,19 +1,20 @@
 // The compass sector of a position seen from a site.
-ghost use Rattle.std.specs.Prelude.{◌≡◌, ◌+◌, ◌≤◌, ◌<◌, ◌^◌, pos, ◌-ℤ◌};
+ghost use Rattle.std.specs.Prelude.{◌≡◌, ◌+◌, ◌≤◌, ◌<◌, pos, ◌-ℤ◌};
 ghost use Rattle.trig.specs.Ticks.{scaled};
 ghost use Rattle.angles.specs.Bearing.{quarter, sector};
 ghost use Rattle.trig.specs.Value.{signed, value};
 
 use trig::num;
-use trig::num::Num;
+use trig::num::{Num, Sine};
+use trig::series::Fraction;
 
 // X, from the sines and cosines of the two latitudes and the cosine of dlon.
-pub fn to_north(s1: Num, c1: u64, s2: Num, c2: u64, cd: Num) -> Num
-    requires { (s1.size ≤ 2 ^ 30) × (c1 ≤ 2 ^ 30) × (s2.size ≤ 2 ^ 30) × (c2 ≤ 2 ^ 30) × (cd.size ≤ 2 ^ 30) }
-    ensures { value result ≡ scaled (pos c1) (value s2) -ℤ scaled (scaled (value s1) (pos c2)) (value cd) }
+#[tactic(auto, using(trig::proofs::Signs::scaled_comm))]
+pub fn to_north(s1: Sine, c1: Fraction, s2: Sine, c2: Fraction, cd: Sine) -> Num
+    ensures { value result ≡ scaled (pos c1.n) (value s2.n) -ℤ scaled (scaled (value s1.n) (pos c2.n)) (value cd.n) }
 {
-    let p = num::part(s2, c1);
-    let q = num::part(s1, c2);
+    let p = num::part(s2.n, c1);
+    let q = num::part(s1.n, c2);
     p - num::scale(q, cd)
 }
 
@@ -22,7 +23,7 @@ fn quarter_of(k: u64, ahead: u64, side: u64) -> u64
     requires { k ≤ 6 }
     ensures { (result ≡ quarter k ahead side) × (result ≤ k + 1) }
 {
-    if side < ahead { k } else { k + 1 }
+    k + (ahead <= side) as u64
 }
 
 // Of an east or west of size m and a north or south of size n, neither of them zero.

@@ -1,11 +1,13 @@
 // East and north of a site, in mm on its plane, and the cell of the grid.
-ghost use Rattle.std.specs.Prelude.{◌≡◌, ◌+◌, ◌*◌, ◌/◌, ◌%◌, ◌≤◌, ◌<◌, ◌^◌, pos};
+ghost use Rattle.std.specs.Prelude.{◌≡◌, ◌+◌, ◌*◌, ◌/◌, ◌%◌, ◌≤◌, ◌<◌, pos};
 ghost use Rattle.trig.specs.Ticks.{deg, wrap, scaled};
 ghost use Rattle.angles.specs.Plane.{mm, column};
 ghost use Rattle.trig.specs.Value.{value};
 
 use trig::num;
 use trig::num::Num;
+use trig::series::Fraction;
+use trig::turn::Angle;
 
 const M: u64 = 1779121284;
 
@@ -14,39 +16,42 @@ const DEG_180: u64 = 180 << 24;
 const DEG_360: u64 = 360 << 24;
 
 // A difference of longitudes, brought to -180 up to below 180 degrees.
-pub fn wrapped(d: Num) -> Num
+pub fn wrapped(d: Num) -> Angle
     requires { d.size ≤ deg 360 }
-    ensures { (value result ≡ wrap (value d)) × (result.size ≤ deg 180) }
+    ensures { value result.n ≡ wrap (value d) }
 {
     let n = d.size;
     let stays = if d.minus { n <= DEG_180 } else { n < DEG_180 };
     if stays {
-        d
+        Angle { n: d }
     } else {
-        Num {
-            minus: !d.minus,
-            size: DEG_360 - n,
+        Angle {
+            n: Num {
+                minus: !d.minus,
+                size: DEG_360 - n,
+            },
         }
     }
 }
 
 // Ticks to mm.
-pub fn to_mm(d: Num) -> Num
-    requires { d.size ≤ deg 180 }
-    ensures { value result ≡ mm (value d) }
+#[tactic(auto, using(crate::proofs::Wraps::mm_signed))]
+pub fn to_mm(d: Angle) -> Num
+    ensures { value result ≡ mm (value d.n) }
 {
     Num {
-        minus: d.minus,
-        size: d.size * M / (1 << 28),
+        size: d.n.size * M / (1 << 28),
+        ..d.n
     }
 }
 
 // East, from the cosine of the site's latitude.
-pub fn to_east(c1: u64, dlon: Num) -> Num
-    requires { (c1 ≤ 2 ^ 30) × (dlon.size ≤ deg 180) }
-    ensures { value result ≡ mm (scaled (value dlon) (pos c1)) }
+pub fn to_east(c1: Fraction, dlon: Angle) -> Num
+    ensures { value result ≡ mm (scaled (value dlon.n) (pos c1.n)) }
 {
-    to_mm(num::part(dlon, c1))
+    to_mm(Angle {
+        n: num::part(dlon.n, c1),
+    })
 }
 
 // 5,000,000 is 64 × 78,125: the last six bits of a number of millimetres do not count for its column, and the columns found so far
@@ -87,10 +92,9 @@ pub fn column_of(e: Num) -> u64
     requires { e.size < 100000000 }
     ensures { (result ≡ column (value e)) × (result < 40) }
 {
-    let v = from_edge(e);
-    let v16 = take_off(v, 16);
-    let v8 = take_off(v16, 8);
-    let v4 = take_off(v8, 4);
-    let v2 = take_off(v4, 2);
-    last_off(v2)
+    let mut v = from_edge(e);
+    for n in [16, 8, 4, 2] {
+        v = take_off(v, n);
+    }
+    last_off(v)
 }

@@ -6,6 +6,9 @@ use Prim.Native.Nat.{ℕ, zero, suc, ◌+◌, ◌-◌, ◌*◌, ◌≤◌, min}
 use native.Mathlib.Omega.{arith}
 use lib.Dec.{eqb, leb, ltb}
 use lib.Ieee.{binary64, to_bits}
+use Rattle.std.specs.Prelude.{Option, Some, None, Ok, Err}
+use Rattle.table.specs.Refusals.{number_of}
+use Rattle.moves.specs.Answers.{Answer}
 use lib.ListN.{length, get_or, take, drop, length-append, length-take}
 use Rattle.fields.specs.Text.{spell, part_of, shown_of, printable}
 use Rattle.print.specs.Print.{digits, without_zeros, decimal_text, bits_text}
@@ -16,13 +19,11 @@ use Rattle.near_field.specs.declared.Evidence.{Evidence}
 use Rattle.near_field.specs.declared.Evidence.TheVariants as evidence
 use Rattle.verdicts.specs.declared.CheckState.{CheckState}
 use Rattle.verdicts.specs.declared.CheckState.TheVariants as state
-use Rattle.moves.specs.declared.Word.{Word}
 use Rattle.moves.specs.declared.Word.TheVariants as word
 use Rattle.answers.specs.Words.{◌then◌, name_text}
 use Rattle.answers.specs.Answers.{shown_text, stray_text, fault_text, bytes_text, key_text, evidence_text, judgment_text, state_text, claim_text, call_text, wrong_text, bit_of, reply_text, text_of}
 use Rattle.answers.specs.declared.Reply.{Reply}
 use Rattle.readers.specs.declared.Name.{Name}
-use Rattle.readers.specs.declared.Name.TheVariants as name
 use Rattle.readers.specs.declared.Fault.{Fault}
 use Rattle.readers.specs.declared.Fault.TheVariants as fault
 use Rattle.answers.specs.declared.Reply.TheVariants as reply
@@ -57,44 +58,7 @@ shown_length w =
     one_of_two (leb 0 m && leb m (length w)) (take (m - 0) (drop 0 w)) [] 32 (omega (arith, length-take (m - 0) w)) (omega arith)
 
 name_length : (n : Name) → length (name_text n) ≤ 8
-name_length name.A = omega arith
-name_length name.Address = omega arith
-name_length name.After = omega arith
-name_length name.Aircraft = omega arith
-name_length name.Alt = omega arith
-name_length name.AtMs = omega arith
-name_length name.B = omega arith
-name_length name.Before = omega arith
-name_length name.Word = omega arith
-name_length name.Cells = omega arith
-name_length name.Distance = omega arith
-name_length name.Even = omega arith
-name_length name.Feet = omega arith
-name_length name.First = omega arith
-name_length name.Free = omega arith
-name_length name.Generation = omega arith
-name_length name.Key = omega arith
-name_length name.Last = omega arith
-name_length name.Lat = omega arith
-name_length name.Lat1 = omega arith
-name_length name.Lat2 = omega arith
-name_length name.Lon = omega arith
-name_length name.Lon1 = omega arith
-name_length name.Lon2 = omega arith
-name_length name.Moved = omega arith
-name_length name.NowMs = omega arith
-name_length name.Number = omega arith
-name_length name.Odd = omega arith
-name_length name.Others = omega arith
-name_length name.Rows = omega arith
-name_length name.Site = omega arith
-name_length name.Value = omega arith
-name_length name.Verdict = omega arith
-name_length name.Wrongs = omega arith
-name_length name.K = omega arith
-name_length name.Next = omega arith
-name_length name.Room = omega arith
-name_length name.Now = omega arith
+name_length n = grind arith
 
 -- a text, a part and a text
 module _ (a : List ℕ) where
@@ -144,17 +108,17 @@ state_length (state.Wrong off) = counted_length (spell "ok wrong ") off (spell "
 key_length : (key : List ℕ) → length (key_text key then spell "\n") ≤ 65
 key_length key = two (key_text key) (spell "\n") 64 1 (omega (arith, bytes_length key 32)) (omega arith)
 
-claim_length : (g : ℕ) (pushed : Bool) (key : List ℕ) → length (claim_text g pushed key) ≤ 128
-claim_length g true key = counted_length (spell "ok ") g (spell " " then key_text key then spell "\n") (omega arith) (omega (arith, key_length key))
-claim_length g false key = counted_length (spell "ok ") g (spell " -" then spell "\n") (omega arith) (omega arith)
+claim_length : (g : ℕ) (pushed : Option (List ℕ)) → length (claim_text g pushed) ≤ 128
+claim_length g (Some key) = counted_length (spell "ok ") g (spell " " then key_text key then spell "\n") (omega arith) (omega (arith, key_length key))
+claim_length g None = counted_length (spell "ok ") g (spell " -" then spell "\n") (omega arith) (omega arith)
 
-call_length : (w : Word) (pushed : Bool) (key : List ℕ) → length (call_text w pushed key) ≤ 128
-call_length (word.Refused q) pushed key = counted_length (spell "no ") q (spell "\n") (omega arith) (omega arith)
-call_length (word.Generation g) pushed key = claim_length g pushed key
-call_length (word.Judged j) pushed key = judgment_length j
-call_length (word.Says s) pushed key = state_length s
-call_length word.Freed pushed key = omega (arith, key_length key)
-call_length word.Done pushed key = omega arith
+call_length : (a : Answer) → length (call_text a) ≤ 128
+call_length (Ok (word.Generation g pushed)) = claim_length g pushed
+call_length (Ok (word.Judged j)) = judgment_length j
+call_length (Ok (word.Says s)) = state_length s
+call_length (Ok (word.Freed key)) = omega (arith, key_length key)
+call_length (Ok word.Done) = omega arith
+call_length (Err r) = counted_length (spell "no ") (number_of r) (spell "\n") (omega arith) (omega arith)
 
 wrong_length : (f : Fault) (number : ℕ) (line : List ℕ) → length (wrong_text f number line) ≤ 128
 wrong_length f number line =
@@ -163,13 +127,12 @@ wrong_length f number line =
 
 reply_length : (r : Reply) (number : ℕ) (line : List ℕ) → length (reply_text r number line) ≤ 128
 reply_length reply.Nothing number line = omega arith
-reply_length (reply.Answered a) number line = call_length a.word a.pushed a.key
+reply_length (reply.Answered a) number line = call_length a
 reply_length (reply.Place p) number line = counted_length (spell "place ") p (spell "\n") (omega arith) (omega arith)
 reply_length (reply.Same b) number line = counted_length (spell "same ") (bit_of b) (spell "\n") (omega arith) (omega arith)
 reply_length (reply.Horizon km) number line = hexed_length (spell "horizon ") (to_bits binary64 km) (omega arith)
 reply_length (reply.Bucket b) number line = counted_length (spell "bucket ") b (spell "\n") (omega arith) (omega arith)
 reply_length (reply.Bit k) number line = counted_length (spell "bit ") k (spell "\n") (omega arith) (omega arith)
-reply_length (reply.No q) number line = counted_length (spell "no ") q (spell "\n") (omega arith) (omega arith)
 reply_length (reply.Digest d) number line = hexed_length (spell "digest ") d (omega arith)
 reply_length (reply.Wrong f) number line = wrong_length f number line
 

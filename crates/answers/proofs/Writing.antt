@@ -1,18 +1,19 @@
 -- Parts of an answer, put one after the other: where both fit, the first and then the second is the two as one.
 use mathlib.Core.Path.{◌≡◌, refl, sym, ap, ◌∙◌}
 use mathlib.Core.List.{List, [], ◌++◌, append-nil, append_assoc}
-use Prim.Native.Nat.{ℕ, ◌+◌, ◌*◌, ◌≤◌}
+use Prim.Native.Nat.{ℕ, ◌+◌, ◌≤◌}
 use native.Mathlib.Numerals.{add-one}
 use native.Mathlib.Nat.{add-zero}
 use native.Mathlib.Omega.{arith}
 use borrow.Author.Tests.{le-leb}
-use lib.ListN.{length, get_or, take, drop, replicate, length-append, length-drop, take-append-drop}
-use lib.Seq.{get_or-drop, take_at, drop-append-add, drop-drop, length-take-le}
+use lib.ListN.{length, get_or, take, drop, length-append, length-drop, take-append-drop}
+use lib.Seq.{take_at, drop-append-add, drop-drop, length-take-le}
 use Rattle.fields.specs.Text.{spell, part_of, shown_of}
-use Rattle.print.specs.Print.{digits, decimal_text, bits_text, put_in, put_end}
+use Rattle.print.specs.declared.Text.{Text}
+use Rattle.print.specs.Print.{digits, decimal_text, put_in, put_end, SameBuffer}
 use Rattle.answers.specs.Words.{◌then◌}
 use Rattle.readers.specs.declared.Fault.{Fault}
-use Rattle.answers.specs.Answers.{shown_text, fault_text, bytes_text, wrong_text, Wrote}
+use Rattle.answers.specs.Answers.{shown_text, fault_text, bytes_text, wrong_text, Wrote, Adds}
 
 -- what fits is put
 put_whole : (out : List ℕ) (n : ℕ) (s : List ℕ) → n + length s ≤ length out → put_in out n s ≡ take n out ++ s ++ drop (n + length s) out
@@ -55,15 +56,15 @@ module _ (out : List ℕ) (n : ℕ) where
       ∙ ap (λ (t : List ℕ). t ++ drop n out) (append-nil (take n out)) ∙ take-append-drop n out)
 
 -- ---- what a part of an answer comes to
-pub wrote_put : (out s out' : List ℕ) (n r : ℕ) → r ≡ put_end out n s → out' ≡ put_in out n s → Wrote out n s out' r
+wrote_put : (out s out' : List ℕ) (n r : ℕ) → r ≡ put_end out n s → out' ≡ put_in out n s → Wrote out n s out' r
 unfolding Wrote put_end
 wrote_put out s out' n r e f h = (e ∙ (rw (le-leb (n + length s) (length out) h)), f)
 
-pub wrote_none : (out : List ℕ) (n : ℕ) → Wrote out n [] out n
+wrote_none : (out : List ℕ) (n : ℕ) → Wrote out n [] out n
 unfolding Wrote
 wrote_none out n h = (omega arith, put_none out n (omega arith))
 
-pub wrote_then : (out a b out1 out2 : List ℕ) (n m r : ℕ) → Wrote out n a out1 m → Wrote out1 m b out2 r → Wrote out n (a then b) out2 r
+wrote_then : (out a b out1 out2 : List ℕ) (n m r : ℕ) → Wrote out n a out1 m → Wrote out1 m b out2 r → Wrote out n (a then b) out2 r
 unfolding Wrote
 wrote_then out a b out1 out2 n m r w v h =
     let l = length-append a b in
@@ -74,41 +75,45 @@ wrote_then out a b out1 out2 n m r w v h =
       y.1 ∙ ap (λ (o : List ℕ). put_in o m b) x.1 ∙ ap (λ (i : ℕ). put_in (put_in out n a) i b) x.0 ∙ put_twice out n a b h,
     )
 
-pub wrote_is : (out s t out' : List ℕ) (n r : ℕ) → s ≡ t → Wrote out n s out' r → Wrote out n t out' r
-wrote_is out s t out' n r e w = rw e at w
+pub adds_put : (a b : Text) (s : List ℕ) → (b.n ≡ put_end a.out.now a.n s) × (b.out.now ≡ put_in a.out.now a.n s) → SameBuffer a b → Adds a s b
+unfolding Adds
+adds_put a b s e g = (g, wrote_put a.out.now s b.out.now a.n b.n e.0 e.1)
 
-pub wrote_both : (out a b c out1 out2 : List ℕ) (n m r : ℕ) → Wrote out n (a then b) out1 m → Wrote out1 m c out2 r → Wrote out n (a then b then c) out2 r
-wrote_both out a b c out1 out2 n m r w v = wrote_is out ((a then b) then c) (a then b then c) out2 n r (append_assoc a b c) (wrote_then out (a then b) c out1 out2 n m r w v)
+pub adds_none : (a : Text) → Adds a [] a
+unfolding Adds
+adds_none a = ((refl, refl), wrote_none a.out.now a.n)
+
+pub adds_then : (a b c : Text) (s t : List ℕ) → Adds a s b → Adds b t c → Adds a (s then t) c
+unfolding Adds
+adds_then a b c s t w v = ((v.0.0 ∙ w.0.0, v.0.1 ∙ w.0.1), wrote_then a.out.now s t b.out.now c.out.now a.n b.n c.n w.1 v.1)
+
+-- the buffer stays the one that is lent
+pub adds_there : (a b : Text) (s : List ℕ) → Adds a s b → SameBuffer a b
+unfolding Adds
+adds_there a b s w = w.0
+
+pub adds_is : (a b : Text) (s t : List ℕ) → s ≡ t → Adds a s b → Adds a t b
+adds_is a b s t e w = rw e at w
+
+pub adds_both : (a b c : Text) (r s t : List ℕ) → Adds a (r then s) b → Adds b t c → Adds a (r then s then t) c
+adds_both a b c r s t w v = adds_is a c ((r then s) then t) (r then s then t) (append_assoc r s t) (adds_then a b c (r then s) t w v)
 
 -- ---- the parts
+pub adds_shown : (a b : Text) (s line word : List ℕ) (end k : ℕ) → word ≡ part_of line 0 end → k ≡ shown_of word → s ≡ part_of word 0 k → Adds a s b → Adds a (shown_text (part_of line 0 end)) b
+adds_shown a b s line word end k e f g w = adds_is a b s (shown_text (part_of line 0 end)) (g ∙ ap (part_of word 0) f ∙ ap shown_text e) w
 
-pub wrote_shown : (out out' s line word : List ℕ) (n r end k : ℕ) → word ≡ part_of line 0 end → k ≡ shown_of word → s ≡ part_of word 0 k → Wrote out n s out' r → Wrote out n (shown_text (part_of line 0 end)) out' r
-wrote_shown out out' s line word n r end k e f g w = wrote_is out s (shown_text (part_of line 0 end)) out' n r (g ∙ ap (part_of word 0) f ∙ ap shown_text e) w
-
--- the last two of sixteen digits
-last_two : (b : ℕ) → take 2 (drop 14 (put_in (replicate 16 0) 0 (bits_text b))) ≡ digits 16 2 b
-unfolding put_in bits_text digits
-last_two b = refl
-
-pub wrote_byte : (out out' own : List ℕ) (n r b : ℕ) → own ≡ put_in (replicate 16 0) 0 (bits_text b) → Wrote out n (take 2 (drop 14 own)) out' r → Wrote out n (digits 16 2 b) out' r
-wrote_byte out out' own n r b e w = wrote_is out _ (digits 16 2 b) out' n r (ap (λ (t : List ℕ). take 2 (drop 14 t)) e ∙ last_two b) w
-
--- a key of a list, byte by byte
-pub bytes_none : (out key : List ℕ) (n : ℕ) → Wrote out n (bytes_text key 0) out n
+-- a key, byte by byte
+pub bytes_none : (a : Text) (key : List ℕ) → Adds a (bytes_text key 0) a
 unfolding bytes_text
-bytes_none out key n = wrote_none out n
+bytes_none a key = adds_none a
 
-pub bytes_on : (out out1 out2 list : List ℕ) (n m r i from j b : ℕ) → from ≡ 32 * i → b ≡ get_or list (from + j) 0 → Wrote out n (bytes_text (drop (32 * i) list) j) out1 m → Wrote out1 m (digits 16 2 b) out2 r → Wrote out n (bytes_text (drop (32 * i) list) (j + 1)) out2 r
+pub bytes_on : (a b c : Text) (key : List ℕ) (j x : ℕ) → x ≡ get_or key j 0 → Adds a (bytes_text key j) b → Adds b (digits 16 2 x) c → Adds a (bytes_text key (j + 1)) c
 unfolding bytes_text
-bytes_on out out1 out2 list n m r i from j b ef eb w v =
-    let key = drop (32 * i) list in
-    let e : b ≡ get_or key j 0 = eb ∙ ap (λ (a : ℕ). get_or list (a + j) 0) ef ∙ sym (get_or-drop (32 * i) list j 0) in
-    rw (add-one j) (wrote_then out (bytes_text key j) (digits 16 2 (get_or key j 0)) out1 out2 n m r w (wrote_is out1 (digits 16 2 b) (digits 16 2 (get_or key j 0)) out2 m r (ap (digits 16 2) e) v))
+bytes_on a b c key j x e w v = rw (add-one j) (adds_then a b c (bytes_text key j) (digits 16 2 (get_or key j 0)) w (rw e at v))
 
 -- what is wrong with a line, part by part
-pub wrong_put : (out out1 out2 out3 out4 line : List ℕ) (n m p q r number : ℕ) (f : Fault) → Wrote out n (spell "error " then decimal_text number) out1 m → Wrote out1 m (spell ": ") out2 p → Wrote out2 p (fault_text f line) out3 q → Wrote out3 q (spell "\n") out4 r
-    → Wrote out n (wrong_text f number line) out4 r
-wrong_put out out1 out2 out3 out4 line n m p q r number f w1 w2 w3 w4 =
+pub wrong_put : (a b c d e : Text) (line : List ℕ) (number : ℕ) (f : Fault) → Adds a (spell "error " then decimal_text number) b → Adds b (spell ": ") c → Adds c (fault_text f line) d → Adds d (spell "\n") e
+    → Adds a (wrong_text f number line) e
+wrong_put a b c d e line number f w1 w2 w3 w4 =
     let text = fault_text f line in
-    wrote_both out (spell "error ") (decimal_text number) (spell ": " then text then spell "\n") out1 out4 n m r w1
-    (wrote_then out1 (spell ": ") (text then spell "\n") out2 out4 m p r w2 (wrote_then out2 text (spell "\n") out3 out4 p q r w3 w4))
+    adds_both a b e (spell "error ") (decimal_text number) (spell ": " then text then spell "\n") w1 (adds_then b c e (spell ": ") (text then spell "\n") w2 (adds_then c d e text (spell "\n") w3 w4))

@@ -1,15 +1,19 @@
 -- What a line is answered, as text (README, 'A list of calls'). Definitions only.
-use Rattle.std.specs.Prelude.{ℕ, zero, suc, ◌+◌, ◌≤◌, ◌≡◌, Bool, true, false, cond, List, [], length, get_or, eqb, leb}
+use Rattle.std.specs.Prelude.{ℕ, zero, suc, ◌+◌, ◌≤◌, ◌≡◌, Bool, true, false, cond, List, [], length, get_or, eqb, leb, Option, Some, None, Ok, Err}
 use Rattle.std.specs.Float.{binary64}
 use Rattle.std.specs.Float.Ieee.{to_bits}
 use Rattle.fields.specs.Text.{spell, part_of, shown_of}
-use Rattle.print.specs.Print.{digits, decimal_text, bits_text, put_in}
+use Rattle.print.specs.declared.Text.{Text}
+use Rattle.print.specs.Print.{digits, decimal_text, bits_text, put_in, SameBuffer}
 use Rattle.near_field.specs.declared.Judgment.{Judgment}
 use Rattle.near_field.specs.declared.Judgment.TheVariants as judgment
 use Rattle.near_field.specs.declared.Evidence.{Evidence}
 use Rattle.near_field.specs.declared.Evidence.TheVariants as evidence
 use Rattle.verdicts.specs.declared.CheckState.{CheckState}
 use Rattle.verdicts.specs.declared.CheckState.TheVariants as state
+use Rattle.table.specs.Refusals.{number_of}
+use Rattle.table.specs.declared.Refusal.{Refusal}
+use Rattle.moves.specs.Answers.{Answer}
 use Rattle.moves.specs.declared.Word.{Word}
 use Rattle.moves.specs.declared.Word.TheVariants as word
 use Rattle.answers.specs.Words.{◌then◌, name_text}
@@ -70,18 +74,25 @@ state_text state.Fits = spell "ok fits\n"
 state_text (state.Wrong off) = spell "ok wrong " then decimal_text off then spell "\n"
 
 -- `ok GENERATION PUSHED|-`
-abbrev pub claim_text : ℕ → Bool → List ℕ → List ℕ
-claim_text g true key = spell "ok " then decimal_text g then spell " " then key_text key then spell "\n"
-claim_text g false key = spell "ok " then decimal_text g then spell " -" then spell "\n"
+abbrev pub claim_text : ℕ → Option (List ℕ) → List ℕ
+claim_text g (Some key) = spell "ok " then decimal_text g then spell " " then key_text key then spell "\n"
+claim_text g None = spell "ok " then decimal_text g then spell " -" then spell "\n"
 
--- `no N`, `ok KEY`, `ok`
-abbrev pub call_text : Word → Bool → List ℕ → List ℕ
-call_text (word.Refused q) pushed key = spell "no " then decimal_text q then spell "\n"
-call_text (word.Generation g) pushed key = claim_text g pushed key
-call_text (word.Judged j) pushed key = judgment_text j
-call_text (word.Says s) pushed key = state_text s
-call_text word.Freed pushed key = spell "ok " then key_text key then spell "\n"
-call_text word.Done pushed key = spell "ok\n"
+-- `ok KEY`, `ok`
+abbrev pub word_text : Word → List ℕ
+word_text (word.Generation g pushed) = claim_text g pushed
+word_text (word.Judged j) = judgment_text j
+word_text (word.Says s) = state_text s
+word_text (word.Freed key) = spell "ok " then key_text key then spell "\n"
+word_text word.Done = spell "ok\n"
+
+-- `no N`
+abbrev pub no_text : Refusal → List ℕ
+no_text r = spell "no " then decimal_text (number_of r) then spell "\n"
+
+abbrev pub call_text : Answer → List ℕ
+call_text (Ok w) = word_text w
+call_text (Err r) = no_text r
 
 -- ---- the answer to a line
 
@@ -94,13 +105,12 @@ wrong_text f number line = spell "error " then decimal_text number then spell ":
 
 abbrev pub reply_text : Reply → ℕ → List ℕ → List ℕ
 reply_text reply.Nothing number line = []
-reply_text (reply.Answered a) number line = call_text a.word a.pushed a.key
+reply_text (reply.Answered a) number line = call_text a
 reply_text (reply.Place p) number line = spell "place " then decimal_text p then spell "\n"
 reply_text (reply.Same b) number line = spell "same " then decimal_text (bit_of b) then spell "\n"
 reply_text (reply.Horizon km) number line = spell "horizon " then bits_text (to_bits binary64 km) then spell "\n"
 reply_text (reply.Bucket b) number line = spell "bucket " then decimal_text b then spell "\n"
 reply_text (reply.Bit k) number line = spell "bit " then decimal_text k then spell "\n"
-reply_text (reply.No q) number line = spell "no " then decimal_text q then spell "\n"
 reply_text (reply.Digest d) number line = spell "digest " then bits_text d then spell "\n"
 reply_text (reply.Wrong f) number line = wrong_text f number line
 
@@ -120,3 +130,7 @@ answered_end out n s = cond (leb (n + 128) (length out)) (n + length s) n
 -- a part of an answer: where it fits whole it is put whole
 unfoldable pub Wrote : List ℕ → ℕ → List ℕ → List ℕ → ℕ → Type 0
 Wrote out n s out' r = n + length s ≤ length out → (r ≡ n + length s) × (out' ≡ put_in out n s)
+
+-- and then the text that the buffer holds has that part behind it
+unfoldable pub Adds : Text → List ℕ → Text → Type 0
+Adds a s b = SameBuffer a b × Wrote a.out.now a.n s b.out.now b.n

@@ -1,56 +1,54 @@
-// What is wrong with a line.
-#![tactic(auto, using(crate::proofs::Writing::wrote_then, crate::proofs::Writing::wrote_shown))]
+// What is wrong with a line. Each arm puts words and parts of its own: no table would be plainer (d).
+#![tactic(auto, using(crate::proofs::Writing::adds_then, crate::proofs::Writing::adds_shown))]
 
 ghost use Rattle.fields.specs.Text.{part_of};
-ghost use Rattle.answers.specs.Answers.{shown_text, fault_text, Wrote};
+ghost use Rattle.answers.specs.Answers.{shown_text, fault_text, Adds};
 ghost use Rattle.answers.specs.Words.{◌then◌};
 
 use crate::put::put_word;
 use crate::words;
+use print::Text;
 use readers::Fault;
 
-fn put_two(out: &mut [u8], n: usize, first: &[u8], second: &[u8]) -> usize
-    ensures { Wrote out.old n (first.now then second.now) out.new result }
+fn put_two(to: &mut Text<'_>, first: &[u8], second: &[u8])
+    ensures { Adds to.old (first.now then second.now) to.new }
 {
-    let a = put_word(out, n, first);
-    put_word(out, a, second)
+    put_word(to, first);
+    put_word(to, second);
 }
 
-// The word that ends at `end` of the line, as far as it can be shown.
-fn put_shown(out: &mut [u8], n: usize, line: &[u8], end: usize) -> usize
-    ensures { Wrote out.old n (shown_text (part_of line.now 0 end)) out.new result }
+// The word that ends at `end` of the line, as far as it can be shown. A place and no word, here and below: a fault with a slice in it would give every
+// reply a lifetime (d).
+fn put_shown(to: &mut Text<'_>, line: &[u8], end: usize)
+    ensures { Adds to.old (shown_text (part_of line.now 0 end)) to.new }
 {
     let word = fields::part(line, 0, end);
-    put_word(out, n, fields::part(word, 0, fields::shown(word)))
+    put_word(to, fields::part(word, 0, fields::shown(word)));
 }
 
-fn put_unknown(out: &mut [u8], n: usize, line: &[u8], end: usize) -> usize
-    ensures { Wrote out.old n (fault_text (Fault.Unknown end) line.now) out.new result }
+fn put_unknown(to: &mut Text<'_>, line: &[u8], end: usize)
+    ensures { Adds to.old (fault_text (Fault.Unknown end) line.now) to.new }
 {
-    let a = put_word(out, n, b"unknown call '");
-    let b = put_shown(out, a, line, end);
-    put_word(out, b, b"'")
+    put_word(to, b"unknown call '");
+    put_shown(to, line, end);
+    put_word(to, b"'");
 }
 
-pub fn put_fault(out: &mut [u8], n: usize, fault: Fault, line: &[u8]) -> usize
-    ensures { Wrote out.old n (fault_text fault line.now) out.new result }
+pub fn put_fault(to: &mut Text<'_>, fault: Fault, line: &[u8])
+    ensures { Adds to.old (fault_text fault line.now) to.new }
 {
     match fault {
-        Fault::Missing(name) => put_two(out, n, words::of_name(name), b" missing"),
-        Fault::NotNumber(name) => put_two(out, n, words::of_name(name), b" is not a number"),
-        Fault::NotKey => put_word(out, n, b"KEY is not 1 to 64 hex digits"),
-        Fault::Extra(name) => put_two(out, n, b"unexpected field after ", words::of_name(name)),
-        Fault::Stray { sep } => put_word(out, n, words::of_stray(sep)),
-        Fault::StrayReturn => put_word(out, n, b"stray carriage return"),
-        Fault::TooLong => put_word(out, n, b"line is longer than 1024 bytes"),
-        Fault::Unknown { end } => put_unknown(out, n, line, end),
-        Fault::TooManyRows => put_word(out, n, b"C is above 64, the most rows that are served"),
-        Fault::TooManyCells => put_word(
-            out,
-            n,
-            b"N is above 214016, the most cells that are served",
-        ),
-        Fault::NoSuchRow => put_word(out, n, b"I is past the rows"),
-        Fault::NoSuchCell => put_word(out, n, b"I is past the cells"),
+        Fault::Missing(name) => put_two(to, words::of_name(name), b" missing"),
+        Fault::NotNumber(name) => put_two(to, words::of_name(name), b" is not a number"),
+        Fault::NotKey => put_word(to, b"KEY is not 1 to 64 hex digits"),
+        Fault::Extra(name) => put_two(to, b"unexpected field after ", words::of_name(name)),
+        Fault::Stray { sep } => put_word(to, words::of_stray(sep)),
+        Fault::StrayReturn => put_word(to, b"stray carriage return"),
+        Fault::TooLong => put_word(to, b"line is longer than 1024 bytes"),
+        Fault::Unknown { end } => put_unknown(to, line, end),
+        Fault::TooManyRows => put_word(to, b"C is above 64, the most rows that are served"),
+        Fault::TooManyCells => put_word(to, b"N is above 214016, the most cells that are served"),
+        Fault::NoSuchRow => put_word(to, b"I is past the rows"),
+        Fault::NoSuchCell => put_word(to, b"I is past the cells"),
     }
 }

@@ -7,9 +7,11 @@ mod text;
 mod words;
 
 ghost use Rattle.std.specs.Prelude.{◌≡◌};
+ghost use Rattle.print.specs.Print.{SameBuffer};
 ghost use Rattle.answers.specs.Answers.{text_of, answered_in, answered_end};
 
 use moves::Answer;
+use print::Text;
 use readers::Fault;
 
 // Silence and an error are replies too: a Result<Option<Reply>, Fault> would be taken apart here alone, by the same arms.
@@ -22,20 +24,19 @@ pub enum Reply {
     Horizon(f64),
     Bucket(u8),
     Bit(u32),
-    No(u8),
     Digest(u64),
     Wrong(Fault),
 }
 
-// Puts the answer to the line of that number and those bytes, and answers where it ends. The buffer has to have 128 bytes free, which is more than any answer has.
-pub fn put_reply(out: &mut [u8], n: usize, reply: Reply, number: u64, line: &[u8]) -> usize
-    ensures { (result ≡ answered_end out.old n (text_of reply number line.now)) × (out.new ≡ answered_in out.old n (text_of reply number line.now)) }
+// Puts the answer to the line of that number and those bytes. The buffer has to have 128 bytes free, which is more than any answer has.
+// The number is counted with the answers, the bytes lie in the reader's buffer: the two meet here (d).
+pub fn put_reply(to: &mut Text<'_>, reply: Reply, number: u64, line: &[u8])
+    ensures put { (to.new.n ≡ answered_end to.old.out.now to.old.n (text_of reply number line.now)) × (to.new.out.now ≡ answered_in to.old.out.now to.old.n (text_of reply number line.now)) }
+    ensures buffer { SameBuffer to.old to.new }
 {
-    if n > out.len() {
-        return n;
+    let free = to.out.len().saturating_sub(to.n);
+    if free < 128 {
+        return;
     }
-    if out.len() - n < 128 {
-        return n;
-    }
-    text::put_text(out, n, reply, number, line)
+    text::put_text(to, reply, number, line);
 }

@@ -1,59 +1,64 @@
-// An answer's parts, each put behind the one before. There is no heap, so the buffer and the place in it stand for a string that grows.
-#![tactic(auto, using(crate::proofs::Writing::wrote_put, crate::proofs::Writing::wrote_none, crate::proofs::Writing::wrote_then, crate::proofs::Writing::wrote_byte, crate::proofs::Writing::bytes_none, crate::proofs::Writing::bytes_on))]
+// An answer's parts, each put behind the one before.
+#![tactic(auto, using(crate::proofs::Writing::adds_put, crate::proofs::Writing::adds_none, crate::proofs::Writing::adds_then, crate::proofs::Writing::adds_both, crate::proofs::Writing::bytes_none, crate::proofs::Writing::bytes_on))]
 
-ghost use Rattle.std.specs.Prelude.{◌≡◌, ◌*◌, drop, get_or};
+ghost use Rattle.std.specs.Prelude.{◌≡◌, get_or};
 ghost use Rattle.print.specs.Print.{digits, decimal_text, bits_text};
+ghost use Rattle.fields.specs.Text.{spell};
 ghost use Rattle.answers.specs.Words.{◌then◌};
-ghost use Rattle.answers.specs.Answers.{key_text, Wrote};
+ghost use Rattle.answers.specs.Answers.{key_text, no_text, Adds};
 
-pub fn put_word(out: &mut [u8], n: usize, word: &[u8]) -> usize
-    ensures { Wrote out.old n word.now out.new result }
+use print::Text;
+use table::Refusal;
+
+pub fn put_word(to: &mut Text<'_>, word: &[u8])
+    ensures { Adds to.old word.now to.new }
 {
-    print::put(out, n, word)
+    to.put(word);
 }
 
-// A word and a number.
-pub fn put_number(out: &mut [u8], n: usize, word: &[u8], v: u64) -> usize
-    ensures { Wrote out.old n (word.now then decimal_text v) out.new result }
+// A word and a number, here and below: a struct of both would be made for the one call (d).
+pub fn put_number(to: &mut Text<'_>, word: &[u8], v: u64)
+    ensures { Adds to.old (word.now then decimal_text v) to.new }
 {
-    let a = put_word(out, n, word);
-    print::put_decimal(out, a, v)
+    put_word(to, word);
+    to.put_decimal(v);
 }
 
-// A word and a number of 16 hex digits.
-pub fn put_hex(out: &mut [u8], n: usize, word: &[u8], v: u64) -> usize
-    ensures { Wrote out.old n (word.now then bits_text v) out.new result }
+// A word and a number of 16 hex digits. Not one function with `put_number`: each caller knows which digits it puts, and a parameter for them would be a flag.
+pub fn put_hex(to: &mut Text<'_>, word: &[u8], v: u64)
+    ensures { Adds to.old (word.now then bits_text v) to.new }
 {
-    let a = put_word(out, n, word);
-    print::put_bits(out, a, v)
+    put_word(to, word);
+    to.put_bits(v);
 }
 
-// Two hex digits, the last of sixteen.
-pub fn put_byte(out: &mut [u8], n: usize, byte: u8) -> usize
-    ensures { Wrote out.old n (digits 16 2 byte) out.new result }
+// A word, a number and the line's end.
+pub fn put_counted(to: &mut Text<'_>, word: &[u8], v: u64)
+    ensures { Adds to.old (word.now then decimal_text v then spell "\n") to.new }
 {
-    let mut own = [0u8; 16];
-    print::put_bits(&mut own, 0, byte as u64);
-    put_word(out, n, &own[14..])
+    put_number(to, word, v);
+    put_word(to, b"\n");
 }
 
-fn byte_at(list: &[u8], i: usize) -> u8
-    ensures { result ≡ get_or list.now i 0 }
+// The question that was answered no.
+pub fn put_no(to: &mut Text<'_>, r: Refusal)
+    ensures { Adds to.old (no_text r) to.new }
 {
-    if i < list.len() {
-        return list[i];
-    }
-    0
+    put_counted(to, b"no ", u64::from(r.number()));
 }
 
-// Key i of a list of keys; a byte behind the list's end is 0.
-pub fn put_key(out: &mut [u8], n: usize, list: &[u8], i: u32) -> usize
-    ensures { Wrote out.old n (key_text (drop (32 * i) list.now)) out.new result }
+// Two hex digits.
+pub fn put_byte(to: &mut Text<'_>, byte: u8)
+    ensures { Adds to.old (digits 16 2 byte) to.new }
 {
-    let from = 32 * (i as usize);
-    let mut at = n;
+    to.put_byte(byte);
+}
+
+// The key at the front of these bytes; a byte behind their end is 0.
+pub fn put_key(to: &mut Text<'_>, key: &[u8])
+    ensures { Adds to.old (key_text key.now) to.new }
+{
     for j in 0..32 {
-        at = put_byte(out, at, byte_at(list, from + j));
+        put_byte(to, key.get(j).copied().unwrap_or(0));
     }
-    at
 }

@@ -1,128 +1,112 @@
-// The text of an answer, part by part.
-#![tactic(auto, using(crate::proofs::Writing::wrote_put, crate::proofs::Writing::wrote_none, crate::proofs::Writing::wrote_then, crate::proofs::Writing::wrote_both))]
+// The text of an answer, part by part. Each arm of a `match` puts what its case holds: no closure or table would be plainer (d).
+#![tactic(auto, using(crate::proofs::Writing::adds_put, crate::proofs::Writing::adds_none, crate::proofs::Writing::adds_then, crate::proofs::Writing::adds_both))]
 
 ghost use Rattle.std.specs.Prelude.{◌≡◌};
 ghost use Rattle.print.specs.Print.{decimal_text, bits_text};
 ghost use Rattle.fields.specs.Text.{spell};
 ghost use Rattle.answers.specs.Words.{◌then◌};
-ghost use Rattle.answers.specs.Answers.{judgment_text, state_text, claim_text, key_text, call_text, wrong_text, bit_of, reply_text, Wrote};
+ghost use Rattle.answers.specs.Answers.{judgment_text, state_text, claim_text, key_text, call_text, wrong_text, reply_text, Adds};
 
-use crate::put::{put_hex, put_key, put_number, put_word};
+use crate::put::{put_counted, put_hex, put_key, put_no, put_number, put_word};
 use crate::{Reply, fault, words};
 use moves::{Answer, Word};
 use near_field::{Evidence, Judgment};
+use print::Text;
 use readers::Fault;
 use verdicts::CheckState;
 
-// A word, a number and the line's end.
-fn put_counted(out: &mut [u8], n: usize, word: &[u8], v: u64) -> usize
-    ensures { Wrote out.old n (word.now then decimal_text v then spell "\n") out.new result }
-{
-    let a = put_number(out, n, word, v);
-    put_word(out, a, b"\n")
-}
-
 // A word, 16 hex digits and the line's end.
-fn put_hexed(out: &mut [u8], n: usize, word: &[u8], v: u64) -> usize
-    ensures { Wrote out.old n (word.now then bits_text v then spell "\n") out.new result }
+fn put_hexed(to: &mut Text<'_>, word: &[u8], v: u64)
+    ensures { Adds to.old (word.now then bits_text v then spell "\n") to.new }
 {
-    let a = put_hex(out, n, word, v);
-    put_word(out, a, b"\n")
+    put_hex(to, word, v);
+    put_word(to, b"\n");
 }
 
-fn put_wrong(out: &mut [u8], n: usize, off_km: u32, by: Evidence) -> usize
-    ensures { Wrote out.old n (judgment_text (Judgment.Wrong off_km by)) out.new result }
+fn put_wrong(to: &mut Text<'_>, off_km: u32, by: Evidence)
+    ensures { Adds to.old (judgment_text (Judgment.Wrong off_km by)) to.new }
 {
-    let a = put_number(out, n, b"ok wrong ", off_km as u64);
-    let b = put_word(out, a, words::of_evidence(by));
-    put_word(out, b, b"\n")
+    put_number(to, b"ok wrong ", u64::from(off_km));
+    put_word(to, words::of_evidence(by));
+    put_word(to, b"\n");
 }
 
-fn put_judgment(out: &mut [u8], n: usize, j: Judgment) -> usize
-    ensures { Wrote out.old n (judgment_text j) out.new result }
+fn put_judgment(to: &mut Text<'_>, j: Judgment)
+    ensures { Adds to.old (judgment_text j) to.new }
 {
     match j {
-        Judgment::Unjudged => put_word(out, n, b"ok unjudged\n"),
-        Judgment::Fits => put_word(out, n, b"ok fits\n"),
-        Judgment::Wrong { off_km, by } => put_wrong(out, n, off_km, by),
+        Judgment::Unjudged => put_word(to, b"ok unjudged\n"),
+        Judgment::Fits => put_word(to, b"ok fits\n"),
+        Judgment::Wrong { off_km, by } => put_wrong(to, off_km, by),
     }
 }
 
-fn put_state(out: &mut [u8], n: usize, s: CheckState) -> usize
-    ensures { Wrote out.old n (state_text s) out.new result }
+fn put_state(to: &mut Text<'_>, s: CheckState)
+    ensures { Adds to.old (state_text s) to.new }
 {
     match s {
-        CheckState::Unjudged => put_word(out, n, b"ok unjudged\n"),
-        CheckState::Fits => put_word(out, n, b"ok fits\n"),
-        CheckState::Wrong(off_km) => put_counted(out, n, b"ok wrong ", off_km as u64),
+        CheckState::Unjudged => put_word(to, b"ok unjudged\n"),
+        CheckState::Fits => put_word(to, b"ok fits\n"),
+        CheckState::Wrong(off_km) => put_counted(to, b"ok wrong ", u64::from(off_km)),
     }
 }
 
 // A key and the line's end.
-fn put_key_end(out: &mut [u8], n: usize, word: &[u8], key: &[u8; 32]) -> usize
-    ensures { Wrote out.old n (word.now then key_text key.now then spell "\n") out.new result }
+fn put_key_end(to: &mut Text<'_>, word: &[u8], key: &[u8; 32])
+    ensures { Adds to.old (word.now then key_text key.now then spell "\n") to.new }
 {
-    let a = put_word(out, n, word);
-    let b = put_key(out, a, key, 0);
-    put_word(out, b, b"\n")
+    put_word(to, word);
+    put_key(to, key);
+    put_word(to, b"\n");
 }
 
 // A claim's generation, and the key that it pushed out, if any.
-fn put_claim(out: &mut [u8], n: usize, generation: u32, pushed: bool, key: &[u8; 32]) -> usize
-    ensures { Wrote out.old n (claim_text generation pushed key.now) out.new result }
+fn put_claim(to: &mut Text<'_>, generation: u32, pushed: Option<[u8; 32]>)
+    ensures { Adds to.old (claim_text generation pushed) to.new }
 {
-    let a = put_number(out, n, b"ok ", generation as u64);
-    if pushed {
-        put_key_end(out, a, b" ", key)
-    } else {
-        put_word(out, a, b" -\n")
+    put_number(to, b"ok ", u64::from(generation));
+    match pushed {
+        Some(key) => put_key_end(to, b" ", &key),
+        None => put_word(to, b" -\n"),
     }
 }
 
-fn put_answer(out: &mut [u8], n: usize, a: Answer) -> usize
-    ensures { Wrote out.old n (call_text a.word a.pushed a.key) out.new result }
+fn put_answer(to: &mut Text<'_>, a: Answer)
+    ensures { Adds to.old (call_text a) to.new }
 {
-    let key = a.key;
-    match a.word {
-        Word::Refused(q) => put_counted(out, n, b"no ", q as u64),
-        Word::Generation(g) => put_claim(out, n, g, a.pushed, &key),
-        Word::Judged(j) => put_judgment(out, n, j),
-        Word::Says(s) => put_state(out, n, s),
-        Word::Freed => put_key_end(out, n, b"ok ", &key),
-        Word::Done => put_word(out, n, b"ok\n"),
+    match a {
+        Ok(Word::Generation { generation, pushed }) => put_claim(to, generation, pushed),
+        Ok(Word::Judged(j)) => put_judgment(to, j),
+        Ok(Word::Says(s)) => put_state(to, s),
+        Ok(Word::Freed(key)) => put_key_end(to, b"ok ", &key),
+        Ok(Word::Done) => put_word(to, b"ok\n"),
+        Err(r) => put_no(to, r),
     }
 }
 
 // The line of that number is wrong.
 #[tactic(auto, using(crate::proofs::Writing::wrong_put))]
-fn put_error(out: &mut [u8], n: usize, fault: Fault, number: u64, line: &[u8]) -> usize
-    ensures { Wrote out.old n (wrong_text fault number line.now) out.new result }
+fn put_error(to: &mut Text<'_>, fault: Fault, number: u64, line: &[u8])
+    ensures { Adds to.old (wrong_text fault number line.now) to.new }
 {
-    let a = put_number(out, n, b"error ", number);
-    let b = put_word(out, a, b": ");
-    let c = fault::put_fault(out, b, fault, line);
-    put_word(out, c, b"\n")
+    put_number(to, b"error ", number);
+    put_word(to, b": ");
+    fault::put_fault(to, fault, line);
+    put_word(to, b"\n");
 }
 
-fn bit(b: bool) -> u64
-    ensures { result ≡ bit_of b }
-{
-    if b { 1 } else { 0 }
-}
-
-pub fn put_text(out: &mut [u8], n: usize, reply: Reply, number: u64, line: &[u8]) -> usize
-    ensures { Wrote out.old n (reply_text reply number line.now) out.new result }
+pub fn put_text(to: &mut Text<'_>, reply: Reply, number: u64, line: &[u8])
+    ensures { Adds to.old (reply_text reply number line.now) to.new }
 {
     match reply {
-        Reply::Nothing => n,
-        Reply::Answered(a) => put_answer(out, n, a),
-        Reply::Place(p) => put_counted(out, n, b"place ", p as u64),
-        Reply::Same(same) => put_counted(out, n, b"same ", bit(same)),
-        Reply::Horizon(km) => put_hexed(out, n, b"horizon ", print::bits_of(km)),
-        Reply::Bucket(b) => put_counted(out, n, b"bucket ", b as u64),
-        Reply::Bit(k) => put_counted(out, n, b"bit ", k as u64),
-        Reply::No(q) => put_counted(out, n, b"no ", q as u64),
-        Reply::Digest(d) => put_hexed(out, n, b"digest ", d),
-        Reply::Wrong(fault) => put_error(out, n, fault, number, line),
+        Reply::Nothing => {}
+        Reply::Answered(a) => put_answer(to, a),
+        Reply::Place(p) => put_counted(to, b"place ", u64::from(p)),
+        Reply::Same(same) => put_counted(to, b"same ", u64::from(same)),
+        Reply::Horizon(km) => put_hexed(to, b"horizon ", print::bits_of(km)),
+        Reply::Bucket(b) => put_counted(to, b"bucket ", u64::from(b)),
+        Reply::Bit(k) => put_counted(to, b"bit ", u64::from(k)),
+        Reply::Digest(d) => put_hexed(to, b"digest ", d),
+        Reply::Wrong(fault) => put_error(to, fault, number, line),
     }
 }

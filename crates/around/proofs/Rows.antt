@@ -2,14 +2,15 @@
 -- four sectors, one after the other. Assumes nothing.
 use mathlib.Core.Path.{◌≡◌, refl, sym, ap, ◌∙◌}
 use mathlib.Core.Bool.{Bool, false}
-use mathlib.Core.List.{List}
+use mathlib.Core.List.{List, [], ◌∷◌}
 use Prim.Native.Nat.{ℕ, zero, suc, ◌+◌, ◌-◌, ◌*◌, ◌%◌, ◌≤◌, ◌<◌, min}
 use native.Mathlib.Omega.{arith}
+use lib.ListN.{get_or}
 use borrow.Author.Tests.{lt-ltb, le-leb, lt-leb}
 use Rattle.std.proofs.Math.Bool.{and-true, and-false}
 use Rattle.plane.specs.Plane.{east_of, north_of, apart, square, dist, over3, sector_from}
 use Rattle.around.specs.Marks.{occ, near, marks_of}
-use Rattle.around.specs.Counts.{counts_of, cut_at, span_of}
+use Rattle.around.specs.Counts.{counts_of, cut_at, span_of, spans_of}
 use Rattle.plane.proofs.Squares.{square_le, far_square, two_apart}
 use Rattle.plane.proofs.Sectors.{in_0, in_1, in_2, in_3, in_4, in_5, in_6, in_7}
 use Rattle.around.proofs.Marked.{Lies, near_none, low_none, marks_skip, span_marks}
@@ -17,6 +18,25 @@ use Rattle.around.proofs.Marked.{Lies, near_none, low_none, marks_skip, span_mar
 -- m half cells north or south, those within 25 km lie at most h east or west
 abbrev pub Reach : ℕ → ℕ → Type 0
 Reach m h = (square h + square m ≤ 100) × (100 < square (h + 1) + square m) × (h ≤ 10)
+
+-- the reaches by how far north or south a row lies
+unfoldable pub reaches : List ℕ
+reaches = 10 ∷ 9 ∷ 9 ∷ 9 ∷ 9 ∷ 8 ∷ 8 ∷ 7 ∷ 6 ∷ 4 ∷ 0 ∷ []
+
+pub reach_at : (m : ℕ) → m ≤ 10 → Reach m (get_or reaches m 0)
+unfolding reaches square
+reach_at zero l = (omega arith, omega arith, omega arith)
+reach_at (suc zero) l = (omega arith, omega arith, omega arith)
+reach_at (suc (suc zero)) l = (omega arith, omega arith, omega arith)
+reach_at (suc (suc (suc zero))) l = (omega arith, omega arith, omega arith)
+reach_at (suc (suc (suc (suc zero)))) l = (omega arith, omega arith, omega arith)
+reach_at (suc (suc (suc (suc (suc zero))))) l = (omega arith, omega arith, omega arith)
+reach_at (suc (suc (suc (suc (suc (suc zero)))))) l = (omega arith, omega arith, omega arith)
+reach_at (suc (suc (suc (suc (suc (suc (suc zero))))))) l = (omega arith, omega arith, omega arith)
+reach_at (suc (suc (suc (suc (suc (suc (suc (suc zero)))))))) l = (omega arith, omega arith, omega arith)
+reach_at (suc (suc (suc (suc (suc (suc (suc (suc (suc zero))))))))) l = (omega arith, omega arith, omega arith)
+reach_at (suc (suc (suc (suc (suc (suc (suc (suc (suc (suc zero)))))))))) l = (omega arith, omega arith, omega arith)
+reach_at (suc (suc (suc (suc (suc (suc (suc (suc (suc (suc (suc m))))))))))) l = absurd (omega arith)
 
 -- ---- where a row is cut
 pub cut_start : (row z : ℕ) → 40 * row ≤ cut_at row z
@@ -33,35 +53,30 @@ cut_mono row a b l = omega arith
 
 -- the spans of a row m half cells north of x, of one m south, and of its own: h is the reach
 abbrev pub north_spans : List ℕ → List Bool → ℕ → ℕ → ℕ → ℕ → List Bool
-north_spans hs ms row x m h =
-    let west = cut_at row (x - h) in
-    let north_west = cut_at row (x - min m h) in
-    let north = cut_at row x in
-    let north_east = cut_at row (x + min m (h + 1)) in
-    let east = cut_at row (x + h + 1) in
-    span_of hs (span_of hs (span_of hs (span_of hs ms west north_west 6) north_west north 7) north north_east 0) north_east east 1
+north_spans hs ms row x m h = spans_of hs ms row ((x - h) ∷ (x - min m h) ∷ x ∷ (x + min m (h + 1)) ∷ (x + h + 1) ∷ []) (6 ∷ 7 ∷ 0 ∷ 1 ∷ []) 4
 
 abbrev pub south_spans : List ℕ → List Bool → ℕ → ℕ → ℕ → ℕ → List Bool
-south_spans hs ms row x m h =
-    let west = cut_at row (x - h) in
-    let south_west = cut_at row (x + 1 - min m (h + 1)) in
-    let south = cut_at row (x + 1) in
-    let south_east = cut_at row (x + min m h + 1) in
-    let east = cut_at row (x + h + 1) in
-    span_of hs (span_of hs (span_of hs (span_of hs ms west south_west 5) south_west south 4) south south_east 3) south_east east 2
+south_spans hs ms row x m h = spans_of hs ms row ((x - h) ∷ (x + 1 - min m (h + 1)) ∷ (x + 1) ∷ (x + min m h + 1) ∷ (x + h + 1) ∷ []) (5 ∷ 4 ∷ 3 ∷ 2 ∷ []) 4
 
 abbrev pub level_spans : List ℕ → List Bool → ℕ → ℕ → ℕ → List Bool
 level_spans hs ms row x h = span_of hs (span_of hs ms (cut_at row (x - h)) (cut_at row x) 6) (cut_at row (x + 1)) (cut_at row (x + h + 1)) 2
 
--- four spans one after the other, from p to p, where p are known to be q
+-- four spans by their ends, where those are known
 pub four_spans :
+    (hs : List ℕ) (ms d : List Bool) (row p0 p1 p2 p3 p4 q0 q1 q2 q3 q4 : ℕ) (ss : List ℕ)
+    → d ≡ spans_of hs ms row (p0 ∷ p1 ∷ p2 ∷ p3 ∷ p4 ∷ []) ss 4 → p0 ≡ q0 → p1 ≡ q1 → p2 ≡ q2 → p3 ≡ q3 → p4 ≡ q4
+    → d ≡ spans_of hs ms row (q0 ∷ q1 ∷ q2 ∷ q3 ∷ q4 ∷ []) ss 4
+four_spans hs ms d row p0 p1 p2 p3 p4 q0 q1 q2 q3 q4 ss e e0 e1 e2 e3 e4 = cc
+
+-- four spans one after the other, from p to p, where p are known to be q
+pub in_turn :
     (hs : List ℕ) (ms a b c d : List Bool) (p0 p1 p2 p3 p4 q0 q1 q2 q3 q4 s t u v : ℕ)
     → a ≡ span_of hs ms p0 p1 s → b ≡ span_of hs a p1 p2 t → c ≡ span_of hs b p2 p3 u → d ≡ span_of hs c p3 p4 v
     → p0 ≡ q0 → p1 ≡ q1 → p2 ≡ q2 → p3 ≡ q3 → p4 ≡ q4
     → d ≡ span_of hs (span_of hs (span_of hs (span_of hs ms q0 q1 s) q1 q2 t) q2 q3 u) q3 q4 v
-four_spans hs ms a b c d p0 p1 p2 p3 p4 q0 q1 q2 q3 q4 s t u v ea eb ec ed e0 e1 e2 e3 e4 = cc
+in_turn hs ms a b c d p0 p1 p2 p3 p4 q0 q1 q2 q3 q4 s t u v ea eb ec ed e0 e1 e2 e3 e4 = cc
 
--- and two, with a gap between them
+-- two spans with a gap between them
 pub two_spans :
     (hs : List ℕ) (ms a b : List Bool) (p0 p1 p2 p3 q0 q1 q2 q3 s t : ℕ)
     → a ≡ span_of hs ms p0 p1 s → b ≡ span_of hs a p2 p3 t → p0 ≡ q0 → p1 ≡ q1 → p2 ≡ q2 → p3 ≡ q3
@@ -223,9 +238,3 @@ module _ (g : List ℕ) (x y row m h : ℕ) (hx : x < 80) (hr : row < 40) (em : 
         (λ i n p q. level_6 x y (east_of i) (north_of i) m h r (omega arith) (omega arith) even (omega arith) p q) (start ms e)
         ∙ marks_skip g x y (cut_at row x) (cut_at row (x + 1)) (cut_mono row x (x + 1) (omega arith))
         (λ i p q. let t = part row x (x + 1) i p q in low_none g x y i (own x y i (omega arith) (omega arith)))))
-
--- the same of the row's own numbers
-pub own_row :
-    (g : List ℕ) (x row h : ℕ) → x < 80 → row < 40 → Reach 0 h → x % 2 ≡ 1 → (hs : List ℕ) → hs ≡ counts_of g
-    → (ms : List Bool) → ms ≡ marks_of g x (2 * row + 1) (40 * row) → level_spans hs ms row x h ≡ marks_of g x (2 * row + 1) (40 * (row + 1))
-own_row g x row h hx hr r odd hs eh ms e = level_marks g x (2 * row + 1) row 0 h hx hr (omega arith) r hs eh (omega arith) ms refl e

@@ -1,5 +1,5 @@
 -- What the code keeps of a grid, and is not 01's.
-use Rattle.std.specs.Prelude.{ℕ, ◌+◌, ◌*◌, ◌/◌, min, Bool, true, cond, List, ltb, get_or, set}
+use Rattle.std.specs.Prelude.{ℕ, zero, suc, ◌+◌, ◌*◌, ◌/◌, min, Bool, true, cond, List, ltb, get_or, set}
 use Rattle.cells.specs.Passes.{how_many, table}
 use Rattle.around.specs.Marks.{occ}
 
@@ -18,3 +18,8 @@ cut_at row z = 40 * row + under z
 -- the marks with that of sector s, if one of the cells from a up to below b is occupied; hs are the counts of a grid
 unfoldable pub span_of : List ℕ → List Bool → ℕ → ℕ → ℕ → List Bool
 span_of hs marks a b s = cond (ltb (get_or hs a 0) (get_or hs b 0)) (set marks s true) marks
+
+-- the marks with those of the first n spans of a row, one behind the other: zs are their ends, ss their sectors
+abbrev pub spans_of : List ℕ → List Bool → ℕ → List ℕ → List ℕ → ℕ → List Bool
+spans_of hs marks row zs ss zero = marks
+spans_of hs marks row zs ss (suc n) = span_of hs (spans_of hs marks row zs ss n) (cut_at row (get_or zs n 0)) (cut_at row (get_or zs (n + 1) 0)) (get_or ss n 0)

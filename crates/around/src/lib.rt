@@ -1,12 +1,14 @@
 // Around a place of the grid: the sectors, the aircraft bits and the cells within 25 km.
 #![tactic(auto)]
 
-ghost use Rattle.std.specs.Prelude.{◌≡◌, ◌%◌, ◌≤◌, ◌<◌, cond, set, true};
+ghost use Rattle.std.specs.Prelude.{◌≡◌, ◌≤◌, ◌<◌, cond, set, true};
 ghost use Rattle.around.specs.Marks.{around_of, sectors_in};
 
 pub mod spans;
 
-// What lies around a place: the sectors that are marked, the aircraft bits, the cells.
+use plane::Centre;
+
+// What lies around a place, as 01 lists it (a): the sectors that are marked, the aircraft bits, the cells.
 #[derive(Clone, Copy)]
 pub struct Nearby {
     pub marks: [bool; 8],
@@ -14,7 +16,8 @@ pub struct Nearby {
     pub cells: u32,
 }
 
-// The marks with that of a sector, if it is heard.
+// The marks with that of a sector, if it is heard. A sector is an index into the eight marks, and its range that of an index: a type of
+// its own would say no more (d).
 pub fn with_mark(mut marks: [bool; 8], sector: usize, heard: bool) -> [bool; 8]
     requires { sector < 8 }
     ensures { result ≡ cond heard (set marks sector true) marks }
@@ -37,14 +40,13 @@ pub fn sectors(marks: [bool; 8]) -> u32
 }
 
 // Around a place: a cell's centre, or the site.
-pub fn around(grid: &[u32; 1600], x: u32, y: u32) -> Nearby
-    requires { (x < 80) × (y < 80) × (x % 2 ≡ y % 2) }
-    ensures { result ≡ around_of grid.now x y }
+pub fn around(grid: &[u32; 1600], at: Centre) -> Nearby
+    ensures { result ≡ around_of grid.now at.place.x at.place.y }
 {
     let heard = spans::heard_before(grid);
-    let marks = spans::marks_around(&heard, x, y);
-    let aircraft = spans::bits_around(grid, x, y);
-    let cells = spans::cells_around(&heard, x, y);
+    let marks = spans::marks_around(&heard, at);
+    let aircraft = spans::bits_around(grid, at.place);
+    let cells = spans::cells_around(&heard, at.place);
     Nearby {
         marks,
         aircraft,

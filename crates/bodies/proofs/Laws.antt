@@ -5,30 +5,19 @@ use native.Mathlib.Omega.{arith}
 use mathlib.Core.List.{List, [], ◌∷◌, ◌++◌, append_assoc, append-nil}
 use lib.ListN.{length, take, drop, replicate, length-replicate, length-set, length-drop}
 use lib.Seq.{sets, sets-eq, length-sets, length-take-le, drop-drop}
-use Rattle.table.proofs.Stores.{back_same}
 use Rattle.cells.specs.Cells.{empty_word}
-use Rattle.heard.specs.declared.Hearing.{Hearing}
-use Rattle.heard.specs.declared.Hearing.TheVariants as Hearings
 use Rattle.heard.specs.declared.Counting.{Counting}
-use Rattle.heard.specs.Answers.{HearingFits, counting_is, half_before}
+use Rattle.heard.specs.Answers.{CountingFits, counting_is, half_before}
 use Rattle.heard.specs.Heard.{width, half, empty_cells}
+use Rattle.heard.proofs.SiteLaws.{width_is}
 use Rattle.table.proofs.Tests.{by_bool}
-use Rattle.bodies.specs.Bodies.{counted_by}
 
 -- CELLS
-pub wide_is : width ≡ 3344
-unfolding width
-wide_is = refl
-
-pub empty_wide : length empty_cells ≡ width
-unfolding empty_cells
-empty_wide = length-replicate width empty_word
-
 pub starts_at : (i : ℕ) → 3344 * i ≡ width * i
-starts_at i = ap (λ (n : ℕ). n * i) (sym wide_is)
+starts_at i = ap (λ (n : ℕ). n * i) (sym width_is)
 
 pub ends_at : (i : ℕ) → 3344 * i + 3344 ≡ width * i + width
-ends_at i = ap (λ (n : ℕ). n * i + n) (sym wide_is)
+ends_at i = ap (λ (n : ℕ). n * i + n) (sym width_is)
 
 pub emptied : (l zs : List ℕ) (i a n : ℕ) → a ≡ width * i → n ≡ width → zs ≡ sets l a (replicate n empty_word) → zs ≡ sets l (width * i) empty_cells
 unfolding empty_cells
@@ -51,40 +40,27 @@ emptied_all l zs n e h =
     tidy [] vs = append-nil vs
     tidy (a ∷ x) vs = append-nil vs
 
--- POSITION
-uncounted : (l : List ℕ) (i : ℕ) (h : Hearing) → width * i + width ≤ length l → counted_by h (take width (drop (width * i) l)) ≡ take width (drop (width * i) l) → l ≡ sets l (width * i) (counted_by h (take width (drop (width * i) l)))
-uncounted l i h r e = sym (ap (λ (m : List ℕ). sets l (width * i) m) e ∙ back_same width (width * i) l r)
-
-pub not_outside : (l : List ℕ) (i : ℕ) (h : Hearing) → (width * i + width ≤ length l) × HearingFits h → h ≡ Hearings.Outside → l ≡ sets l (width * i) (counted_by h (take width (drop (width * i) l)))
-not_outside l i h r e = uncounted l i h r.0 (rw e)
-
-pub not_siteless : (l : List ℕ) (i : ℕ) (h : Hearing) → (width * i + width ≤ length l) × HearingFits h → h ≡ Hearings.Siteless → l ≡ sets l (width * i) (counted_by h (take width (drop (width * i) l)))
-not_siteless l i h r e = uncounted l i h r.0 (rw e)
-
-pub not_late : (l : List ℕ) (i : ℕ) (h : Hearing) → (width * i + width ≤ length l) × HearingFits h → h ≡ Hearings.Late → l ≡ sets l (width * i) (counted_by h (take width (drop (width * i) l)))
-not_late l i h r e = uncounted l i h r.0 (rw e)
-
 -- ONE ROW'S CELLS, as a part of the slice
 part_is : (l : List ℕ) (i a z : ℕ) → a ≡ width * i → z ≡ width * i + width → take (z - a) (drop a l) ≡ take width (drop (width * i) l)
-part_is l i a z e f = let k : z - a ≡ width = omega (arith, f, wide_is) in ap₂ {C = List ℕ} (λ n m. take n (drop m l)) k e
+part_is l i a z e f = let k : z - a ≡ width = omega (arith, f, width_is) in ap₂ {C = List ℕ} (λ n m. take n (drop m l)) k e
 
 pub judge_fits : (m : List ℕ) (i a z : ℕ) → a ≡ width * i → z ≡ width * i + width → length m ≡ z - a → length m ≡ 3344
-judge_fits m i a z e f n = omega (arith, e, f, n, wide_is)
+judge_fits m i a z e f n = omega (arith, e, f, n, width_is)
 
 count_long : (c : Counting) (m : List ℕ) → length (counting_is c m) ≡ length m
 unfolding counting_is half_before
 count_long c m = length-set (half_before c m) (c.start + c.place) _ ∙ by_bool c.newer (λ p. rw p (length-sets m c.start (replicate half empty_word))) (λ p. rw p)
 
-pub counted : (l ys : List ℕ) (i a z : ℕ) (h : Hearing) (c : Counting) → a ≡ width * i → z ≡ width * i + width → (width * i + width ≤ length l) × HearingFits h → h ≡ Hearings.In c → ys ≡ counting_is c (take (z - a) (drop a l))
-    → take a l ++ (ys ++ drop (z - a) (drop a l)) ≡ sets l (width * i) (counted_by h (take width (drop (width * i) l)))
-counted l ys i a z h c e f r g q =
+pub counted : (l ys : List ℕ) (i a z : ℕ) (c : Counting) → a ≡ width * i → z ≡ width * i + width → (width * i + width ≤ length l) × CountingFits c → ys ≡ counting_is c (take (z - a) (drop a l))
+    → take a l ++ (ys ++ drop (z - a) (drop a l)) ≡ sets l (width * i) (counting_is c (take width (drop (width * i) l)))
+counted l ys i a z c e f r q =
     let m = take width (drop (width * i) l) in
     let x : ys ≡ counting_is c m = q ∙ ap (λ (n : List ℕ). counting_is c n) (part_is l i a z e f) in
     let n : length (counting_is c m) ≡ width = count_long c m ∙ length-take-le width (drop (width * i) l) (omega (arith, r.0, length-drop (width * i) l)) in
-    let k : z - a ≡ length (counting_is c m) = omega (arith, f, n, wide_is) in
+    let k : z - a ≡ length (counting_is c m) = omega (arith, f, n, width_is) in
     let t : sets l (width * i) (counting_is c m) ≡ take (width * i) l ++ (counting_is c m ++ drop (width * i + length (counting_is c m)) l) =
     sets-eq (counting_is c m) l (width * i) (omega (arith, n, r.0)) ∙ append_assoc (take (width * i) l) (counting_is c m) (drop (width * i + length (counting_is c m)) l) in
-    ap₂ {C = List ℕ} (λ u v. take a l ++ (u ++ v)) x (drop_drop_at k) ∙ ap (λ (b : ℕ). take b l ++ (counting_is c m ++ drop (b + length (counting_is c m)) l)) e ∙ sym t ∙ ap (λ (o : Hearing). sets l (width * i) (counted_by o m)) (sym g)
+    ap₂ {C = List ℕ} (λ u v. take a l ++ (u ++ v)) x (drop_drop_at k) ∙ ap (λ (b : ℕ). take b l ++ (counting_is c m ++ drop (b + length (counting_is c m)) l)) e ∙ sym t
   where
     drop_drop_at : {j : ℕ} → z - a ≡ j → drop (z - a) (drop a l) ≡ drop (a + j) l
     drop_drop_at k = drop-drop (z - a) a l ∙ ap (λ (b : ℕ). drop (a + b) l) k

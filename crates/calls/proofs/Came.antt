@@ -7,11 +7,12 @@ use Rattle.grammar.specs.Lines.{line_of}
 use Rattle.grammar.specs.declared.Said.{Said}
 use Rattle.readers.specs.declared.Fault.{Fault}
 use Rattle.fields.specs.Text.{part_of}
+use Rattle.print.specs.declared.Text.{Text}
 use Rattle.print.specs.Print.{put_in}
 use Rattle.lending.specs.Lendings.{lent_to}
 use Rattle.lending.specs.declared.Size.{Size}
 use Rattle.answers.specs.declared.Reply.{Reply}
-use Rattle.answers.specs.Answers.{text_of, answered_in, answered_end, Wrote}
+use Rattle.answers.specs.Answers.{text_of, answered_in, answered_end, Wrote, Adds}
 use Rattle.answers.proofs.Lengths.{text_length}
 use Rattle.answers.proofs.Writing.{put_length}
 use Rattle.rounds.proofs.Lengths.{line_length}
@@ -19,8 +20,7 @@ use Rattle.std.specs.Io.KnownBytes.{Appends}
 use Rattle.std.proofs.KnownBytes.{Appends-nil, Appends-trans}
 use Rattle.lines.specs.declared.streams.Stream.{Stream}
 use Rattle.lines.specs.Streams.{held_by, sink_failed}
-use Rattle.session.specs.Watches.{Watched}
-use Rattle.calls.specs.Turns.{Held, Stepped, Turns, none, turn, Told}
+use Rattle.calls.specs.Turns.{Held, Stepped, Turns, none, turn}
 use Rattle.calls.specs.Inputs.{Came, room_of, written_of, tick_of, Answered}
 
 -- ---- where the answer goes
@@ -54,25 +54,25 @@ tick_few w (Ok None) = omega arith
 tick_few w (Err f) = omega arith
 
 -- what is put whole where it fits, and fits
-fitting : (out s out' : List ℕ) (n r : ℕ) → Wrote out n s out' r → n + length s ≤ length out → (r ≡ n + length s) × (out' ≡ put_in out n s)
-unfolding Wrote
-fitting out s out' n r w h = w h
+fitting : (a b : Text) (s : List ℕ) → Adds a s b → a.n + length s ≤ length a.out.now → (b.n ≡ a.n + length s) × (b.out.now ≡ put_in a.out.now a.n s)
+unfolding Adds Wrote
+fitting a b s w h = w.1 h
 
-module _ (line : Line) (b : List ℕ) (number : ℕ) (z : Size) (xs ys ws out : List ℕ) (n : ℕ) (z' : Size) (xs' ys' ws' out1 out' : List ℕ) (at m r : ℕ) (reply : Reply) (asked : Result (Option Said) Fault) where
-  pub answered_is : asked ≡ line_of b → Came line asked z xs ys ws z' xs' ys' ws' reply → at ≡ room_of n → 65536 ≤ length out → m ≡ answered_end out at (text_of reply number b) → out1 ≡ answered_in out at (text_of reply number b)
-      → Wrote out1 m (tick_of (lent_to z' xs' ys' ws') asked) out' r
-      → Answered line b number z xs ys ws out n z' xs' ys' ws' out' r
+module _ (line : Line) (b : List ℕ) (number : ℕ) (z : Size) (xs ys ws out : List ℕ) (n : ℕ) (z' : Size) (xs' ys' ws' : List ℕ) (m to : Text) (at : ℕ) (reply : Reply) (asked : Result (Option Said) Fault) where
+  pub answered_is : asked ≡ line_of b → Came line asked z xs ys ws z' xs' ys' ws' reply → at ≡ room_of n → 65536 ≤ length out → (m.n ≡ answered_end out at (text_of reply number b)) × (m.out.now ≡ answered_in out at (text_of reply number b))
+      → Adds m (tick_of (lent_to z' xs' ys' ws') asked) to
+      → Answered line b number z xs ys ws out n z' xs' ys' ws' to.out.now to.n
   unfolding answered_end answered_in
-  answered_is g e f h i j w =
+  answered_is g e f h i w =
       let text = text_of reply number b in
       let tick = tick_of (lent_to z' xs' ys' ws') (line_of b) in
       let t = le-leb (room_of n + 128) (length out) (omega (arith, room_few n)) in
-      let end : m ≡ room_of n + length text = i ∙ (rw (f, t)) in
-      let put : out1 ≡ put_in out (room_of n) text = j ∙ (rw (f, t)) in
+      let end : m.n ≡ room_of n + length text = i.0 ∙ (rw (f, t)) in
+      let put : m.out.now ≡ put_in out (room_of n) text = i.1 ∙ (rw (f, t)) in
       let whole : length (put_in out (room_of n) text) ≡ length out = put_length out (room_of n) text (omega (arith, room_few n, text_length reply number b)) in
-      let both = fitting (put_in out (room_of n) text) tick out' (room_of n + length text) r (rw (g, end, put) at w)
-      (omega (arith, whole, room_few n, text_length reply number b, tick_few (lent_to z' xs' ys' ws') (line_of b))) in
-      record { reply = reply; came = rw g at e; end = both.0; put = both.1 }
+      let both = fitting m to tick (rw g at w)
+      (omega (arith, end, ap length put, whole, room_few n, text_length reply number b, tick_few (lent_to z' xs' ys' ws') (line_of b))) in
+      record { reply = reply; came = rw g at e; end = rw end at both.0; put = rw (put, end) at both.1 }
 
 -- ---- the run
 -- turns in a row from a to b, and what they have written; y is what the sink holds now
@@ -98,18 +98,4 @@ module _ {W : Type 0} (contents : W → Option (List ℕ)) (s t : Stream W) (h :
     text = g.text ++ written_of b.out b.n;
     turns = turn b c g.text g.turns k;
     written = λ sound. Appends-trans x (held_by contents s) (held_by contents t) g.text (written_of b.out b.n) (g.written (was_sound sound)) (w sound);
-  }
-
-  pub told_is : (a first last : Held) (x : Option (List ℕ)) (reply : Reply) → Watched 1 a.size a.rows a.cells a.ends first.size first.rows first.cells first.ends reply
-      → first ≡ record a { size = first.size; rows = first.rows; cells = first.cells; ends = first.ends } → Going first last x (held_by contents s) (sink_failed s)
-      → (sink_failed t ≡ false → Appends (held_by contents s) (held_by contents t) (part_of last.out 0 last.n)) → sink_failed t ≡ false → Told a x (held_by contents t)
-  told_is a first last x reply o e g w sound = record {
-    first = first;
-    last = last;
-    text = g.text;
-    reply = reply;
-    opened = o;
-    begun = e;
-    turns = g.turns;
-    written = Appends-trans x (held_by contents s) (held_by contents t) g.text (part_of last.out 0 last.n) (g.written (was_sound sound)) (w sound);
   }

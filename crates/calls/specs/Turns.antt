@@ -33,8 +33,8 @@ held l w o = record {
   rows = w.rows.now;
   cells = w.cells.now;
   ends = w.ends.now;
-  out = o.buf.now;
-  n = o.n;
+  out = o.text.out.now;
+  n = o.text.n;
   lines = o.lines;
 }
 

@@ -3,7 +3,8 @@ ghost use Rattle.std.specs.Prelude.{◌≡◌, true, false};
 ghost use Rattle.std.specs.Io.KnownBytes.{Appends};
 ghost use Rattle.lines.specs.Streams.{held_by, sink_failed};
 ghost use Rattle.lending.specs.Lendings.{Room, lent_to};
-ghost use Rattle.answers.specs.Answers.{Wrote};
+ghost use Rattle.print.specs.Print.{SameBuffer};
+ghost use Rattle.answers.specs.Answers.{Adds};
 ghost use Rattle.calls.specs.Inputs.{Came, number_of, written_of, tick_of, Answered};
 ghost use Rattle.calls.specs.Turns.{held, Stepped, Told};
 
@@ -12,6 +13,7 @@ use answers::Reply;
 use grammar::Said;
 use lending::Watch;
 use lines::{Line, Lines};
+use print::Text;
 use readers::Fault;
 use std::io::{Read, Write};
 
@@ -40,40 +42,40 @@ fn number_of(line: Line, lines: u64) -> u64
 }
 
 // Puts a tick's answer, which is the turn keeper's and leaves the watch as it is.
-#[tactic(auto, using(answers::proofs::Writing::wrote_none))]
-fn tick(w: &Watch<'_>, asked: Result<Option<Said>, Fault>, out: &mut [u8], n: usize) -> usize
-    ensures { Wrote out.old n (tick_of (lent_to w.now.size w.now.rows.now w.now.cells.now w.now.ends.now) asked) out.new result }
+#[tactic(auto, using(answers::proofs::Writing::adds_none))]
+fn tick(w: &Watch<'_>, asked: Result<Option<Said>, Fault>, to: &mut Text<'_>)
+    ensures buffer { SameBuffer to.old to.new }
+    ensures put { Adds to.old (tick_of (lent_to w.now.size w.now.rows.now w.now.cells.now w.now.ends.now) asked) to.new }
 {
     match asked {
-        Ok(Some(said)) => rounds::put_line(w, said.line, out, n),
-        Ok(None) => n,
-        Err(_) => n,
+        Ok(Some(said)) => rounds::put_line(w, said.line, to),
+        Ok(None) | Err(_) => {}
     }
 }
 
-// Runs a line, and puts its answer behind those that wait.
+// Runs a line, and puts its answer behind those that wait. The list lends the bytes meanwhile: so watch and output, here and below, are in no
+// struct with it (d).
 fn answer<W: Write>(w: &mut Watch<'_>, out: &mut Output<'_, W>, line: Line, bytes: &[u8])
     requires { Room w.old.rows.now w.old.cells.now }
-    ensures answered { Answered line bytes.now out.old.lines w.old.size w.old.rows.now w.old.cells.now w.old.ends.now out.old.buf.now out.old.n w.new.size w.new.rows.now w.new.cells.now w.new.ends.now out.new.buf.now out.new.n }
+    ensures answered { Answered line bytes.now out.old.lines w.old.size w.old.rows.now w.old.cells.now w.old.ends.now out.old.text.out.now out.old.text.n w.new.size w.new.rows.now w.new.cells.now w.new.ends.now out.new.text.out.now out.new.text.n }
     ensures lines { out.new.lines ≡ out.old.lines }
-    ensures written { sink_failed out.new.to ≡ false → Appends (held_by W.contents out.old.to) (held_by W.contents out.new.to) (written_of out.old.buf.now out.old.n) }
-    ensures failed { sink_failed out.old.to ≡ true → out.new.to ≡ out.old.to }
+    ensures written { sink_failed out.new.to.now ≡ false → Appends (held_by W.contents out.old.to.now) (held_by W.contents out.new.to.now) (written_of out.old.text.out.now out.old.text.n) }
+    ensures failed { sink_failed out.old.to.now ≡ true → out.new.to.now ≡ out.old.to.now }
     ensures room { Room w.new.rows.now w.new.cells.now }
 {
     let asked = grammar::read(bytes);
     let reply = tell(w, line, asked);
     out.room();
-    let at = out.n;
-    let end = answers::put_reply(out.buf, at, reply, out.lines, bytes);
-    out.n = tick(w, asked, out.buf, end);
+    answers::put_reply(&mut out.text, reply, out.lines, bytes);
+    tick(w, asked, &mut out.text);
 }
 
 // Answers the next line, or reads more where no line is whole.
 fn step<R: Read, W: Write>(list: &mut Lines<'_, R>, w: &mut Watch<'_>, out: &mut Output<'_, W>)
     requires { Room w.old.rows.now w.old.cells.now }
     ensures stepped { Stepped (held list.old w.old out.old) (held list.new w.new out.new) }
-    ensures written { sink_failed out.new.to ≡ false → Appends (held_by W.contents out.old.to) (held_by W.contents out.new.to) (written_of out.old.buf.now out.old.n) }
-    ensures failed { sink_failed out.old.to ≡ true → out.new.to ≡ out.old.to }
+    ensures written { sink_failed out.new.to.now ≡ false → Appends (held_by W.contents out.old.to.now) (held_by W.contents out.new.to.now) (written_of out.old.text.out.now out.old.text.n) }
+    ensures failed { sink_failed out.old.to.now ≡ true → out.new.to.now ≡ out.old.to.now }
     ensures room { Room w.new.rows.now w.new.cells.now }
 {
     let line = list.next_line();
@@ -85,7 +87,7 @@ fn step<R: Read, W: Write>(list: &mut Lines<'_, R>, w: &mut Watch<'_>, out: &mut
 // Before the first line there is a fresh watch of one row. A proved loop has to end, and nothing says that the input does. So the loop has as many turns as no run uses up.
 pub fn run<R: Read, W: Write>(list: &mut Lines<'_, R>, w: &mut Watch<'_>, out: &mut Output<'_, W>)
     requires { Room w.old.rows.now w.old.cells.now }
-    ensures { sink_failed out.new.to ≡ false → Told (held list.old w.old out.old) (held_by W.contents out.old.to) (held_by W.contents out.new.to) }
+    ensures { sink_failed out.new.to.now ≡ false → Told (held list.old w.old out.old) (held_by W.contents out.old.to.now) (held_by W.contents out.new.to.now) }
 {
     let _ = session::watch(w, 1);
     for _ in 0..u64::MAX {

@@ -25,6 +25,7 @@ fn cell_words() -> [u32; 214016]
     [0; 214016]
 }
 
+// No twin of the `main` of `vectors`: a program has one each, and they share how a list and a sink begin and end (d).
 fn main(rt: HostRuntime) -> io::Result<()> {
     let mut rows = row_words();
     let mut cells = cell_words();
@@ -38,8 +39,9 @@ fn main(rt: HostRuntime) -> io::Result<()> {
         ends: &mut ends,
     };
     let mut list = Lines::new(Source::new(rt.stdin()), &mut buf);
-    let mut answers = Output::new(Sink::new(rt.stdout()), &mut out);
+    let mut to = Sink::new(rt.stdout());
+    let mut answers = Output::new(&mut to, &mut out);
     input::run(&mut list, &mut watch, &mut answers);
     list.end()?;
-    answers.end()
+    to.end()
 }

@@ -2,13 +2,13 @@
 -- to i, and a turn is `pass_next`, `sum_step` or `table_fill`. Assumes nothing.
 use mathlib.Core.Path.{◌≡◌, refl, sym, ap, ◌∙◌}
 use mathlib.Core.Bool.{Bool, true, false, ◌&&◌, ◌||◌, cond, true≢false}
-use mathlib.Core.Logic.{◌⊎◌, inl, inr, ⊎_elim}
+use mathlib.Core.Logic.{⊎_elim}
 use mathlib.Core.List.{List, [], ◌∷◌, ◌++◌}
 use Prim.Native.Nat.{ℕ, zero, suc, ◌+◌, ◌≤◌, ◌<◌}
 use native.Mathlib.Nat.{eq-or-lt_of_le, le_of_suc-le-suc, le_antisymm}
 use native.Mathlib.Numerals.{add-one}
 use native.Mathlib.Omega.{arith}
-use borrow.Author.Tests.{lt-ltb, le-ltb, ltb-true, ltb-false}
+use borrow.Author.Tests.{lt-ltb, le-ltb}
 use lib.Dec.{ltb}
 use lib.ListN.{length, get_or, take, set, length-append, get_or-append}
 use lib.Seq.{get_or_at, take-suc-set, take_all}
@@ -44,17 +44,6 @@ pass_same f g s zero h = refl
 pass_same f g s (suc n) h = h n (omega arith) (pass f s n) ∙ ap (g n) (pass_same f g s n (λ i l x. h i (omega arith) x))
 
 -- ---- sums
-more : (b c : Bool) (s t k : ℕ) → (b ≡ true → c ≡ true) → s ≤ t → cond b (s + k) s ≤ cond c (t + k) t
-more true true s t k h l = omega arith
-more true false s t k h l = absurd (true≢false (sym (h refl)))
-more false true s t k h l = omega arith
-more false false s t k h l = l
-
-pub sum_mono : (p q : ℕ → Bool) (f : ℕ → ℕ) (n : ℕ) → ((i : ℕ) → p i ≡ true → q i ≡ true) → sum_of p f n ≤ sum_of q f n
-unfolding pass
-sum_mono p q f zero h = omega arith
-sum_mono p q f (suc n) h = more (p n) (q n) (sum_of p f n) (sum_of q f n) (f n) (h n) (sum_mono p q f n h)
-
 added : (b : Bool) (n k : ℕ) → n + cond b k 0 ≡ cond b (n + k) n
 added true n k = refl
 added false n k = omega arith
@@ -155,12 +144,6 @@ first_bound p mono n d l = by (p d) refl where
       le-ltb (first p n) (suc d)
       (⊎_elim (λ (lt : d < first p n). omega arith) (λ (ge : first p n ≤ d). absurd (true≢false (sym (mono (first p n) d ge (first_holds p n (omega arith))) ∙ e))) (cases_lt d (first p n)))
       ∙ sym e
-
-pub first_same : (p q : ℕ → Bool) (n : ℕ) → ((k : ℕ) → k < n → p k ≡ q k) → first p n ≡ first q n
-first_same p q n h =
-    first_unique p n (first q n) (first_le q n)
-    (λ j l. h j (omega (arith, first_le q n)) ∙ first_least q n j l)
-    (λ l. h (first q n) l ∙ first_holds q n l)
 
 -- ---- tables
 pub table_same : {A : Type 0} (f g : ℕ → A) (n : ℕ) → ((k : ℕ) → k < n → f k ≡ g k) → table f n ≡ table g n

@@ -38,6 +38,7 @@ impl Cell {
         }
     }
 
+    // As 01 writes it. Put together of bytes, the aircraft bits would have to be cut in two first (d).
     pub fn pack(self) -> u32
         ensures { result ≡ packed self }
     {
@@ -71,6 +72,7 @@ impl Cell {
         self.count > 0
     }
 
+    // A bucket of 255 is none: a cell of 01 is 32 bits, with 8 of them for the bucket (a).
     pub fn ceiling_m(self) -> Option<f64>
         ensures { result ≡ ceiling self.low }
     {
@@ -129,7 +131,7 @@ pub fn merged_word(a: u32, b: u32) -> u32
     Cell::unpack(a).merged(Cell::unpack(b)).pack()
 }
 
-// The altitude bucket of `feet`: steps of 500, the last one for all above, and one more for none.
+// The altitude bucket of `feet`: steps of 500, the last one for all above, and one more, 255, for none: 01 gives it 8 bits of a cell (a).
 pub fn bucket(feet: Option<i32>) -> u8
     ensures { result ≡ bucket_of feet }
 {

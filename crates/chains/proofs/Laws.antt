@@ -10,8 +10,9 @@ use Rattle.scans.specs.declared.Key.{Key}
 use Rattle.rows.specs.declared.Row.{Row}
 use Rattle.scans.specs.declared.Ends.{Ends}
 use Rattle.scans.specs.declared.Cursor.{Cursor}
-use Rattle.scans.specs.declared.Look.{Look}
-use Rattle.scans.specs.declared.Look.TheVariants as L
+use Rattle.std.specs.Prelude.{Result, Err}
+use Rattle.table.specs.declared.Refusal.{Refusal}
+use Rattle.table.specs.declared.Refusal.TheVariants as R
 use Rattle.rows.specs.Links.{blank}
 use Rattle.rows.specs.Read.{fits, Looked}
 use Rattle.rows.specs.Search.{sizes_of, step_of, scanned}
@@ -52,11 +53,11 @@ module _ (ys : List Row) (s c : Cursor) (n : ℕ) (key : List ℕ) (t : Bool) (l
   scan_ends h q = sym (stops ys c (more_is false h)) ∙ q
 
 -- QUESTIONS 1 TO 3, of n rows
-module _ (xs : List Row) (m n : ℕ) (e : Ends) (k : Key) (t : Bool) (r : Look) (long : n ≡ length xs) (test : t ≡ sizes_of n m) where
+module _ (xs : List Row) (m n : ℕ) (e : Ends) (k : Key) (t : Bool) (r : Result ℕ Refusal) (long : n ≡ length xs) (test : t ≡ sizes_of n m) where
   fit : t ≡ sizes_of (length xs) m
   fit = test ∙ ap (λ (j : ℕ). sizes_of j m) long
 
-  pub look_not : t ≡ false → r ≡ L.No 1 → Looked xs m e k r
+  pub look_not : t ≡ false → r ≡ Err R.Sizes → Looked xs m e k r
   look_not h d = looks_not xs m e k t r fit h d
 
   pub look_fits :

@@ -1,5 +1,5 @@
--- What a call leaves in lent rows, by its answer, and the two laws that each form of them meets: a refusal leaves what was there, and an accepted call leaves rows
--- that pass question 2. Definitions, and the laws of records and of words.
+-- What a call leaves in lent rows, by its answer, and the two laws that each form of them meets: rows as they were are what a refusal leaves, and rows that pass
+-- question 2 are what an accepted call leaves. Definitions, and the laws of records and of words.
 use Rattle.std.specs.Prelude.{◌≡◌, ℕ, ◌≤◌, true, List, Option, map, length, refl}
 use Rattle.std.proofs.Common.{sym, arith}
 use Rattle.table.specs.Machine as M

@@ -1,16 +1,16 @@
 // The order of use over lent rows: the steps of crate `rows` on the chains, and questions 1 to 3, once for whatever the rows are lent as. That is records (01, "the
 // rows are lent as a slice of records"), or the plain numbers of crate `flat`. `Lent` says what a lent slice has to offer, and what its rows are.
+// A link or an end that is none is the largest u32, as in the words that are lent (a).
 #![tactic(auto)]
 
 ghost use Rattle.std.specs.Prelude.{◌≡◌, ℕ, ◌≤◌, ◌<◌, List, leb, length, set, get_or, refl};
 ghost use Rattle.table.specs.Machine.{Answer};
 ghost use Rattle.receiver.specs.Calls.{Out};
 ghost use Rattle.rows.specs.Read.{Looked};
-ghost use Rattle.rows.specs.Links.{blank, with_links, nexted, preved, parted_rows, unlinked_rows, unlinked_ends, linked_rows, released_rows, released_ends, touched_rows, touched_ends, marked_rows, marked_ends, room_rows, room_ends, taken_rows, taken_ends, entered_rows, entered_ends, seat_of, seated_rows, fresh_from};
+ghost use Rattle.rows.specs.Links.{blank, with_links, nexted, preved, part_at, parted_rows, unlinked_rows, unlinked_ends, linked_rows, released_rows, released_ends, touched_rows, touched_ends, marked_rows, marked_ends, room_rows, room_ends, taken_rows, taken_ends, entered_rows, entered_ends, seat_of, seated_rows, fresh_from};
 ghost use Rattle.rows.specs.declared.Row.{Row};
 ghost use Rattle.scans.specs.Ends.{linked_ends};
 ghost use Rattle.rows.specs.Search.{step_of, scanned};
-ghost use Rattle.scans.specs.Scan.{at_of};
 ghost use Rattle.flat.specs.Table.{rows_of, Left};
 ghost use Rattle.glances.specs.Glances.{links_of, glance_of};
 ghost use Rattle.packing.specs.Words.{key_of};
@@ -19,7 +19,8 @@ ghost use Rattle.chains.specs.Lent.{LeftLaws, LeftRows, same_rows, rows_left, wo
 use glances::{Glance, Links};
 use receiver::Part;
 use rows::{Row, Seat};
-use scans::{Cursor, Ends, Key, Look};
+use scans::{Cursor, Ends, Key};
+use table::Refusal;
 
 // ---- what rows are lent as
 
@@ -44,7 +45,8 @@ impl Sought {
     }
 }
 
-// The element of a lent slice. A link that is no row's number reads as the unmade row, and a store there changes nothing.
+// The element of a lent slice. A link that is no row's number reads as the unmade row, and a store there changes nothing. Each method is handed the slice and a place
+// in it, and each form of rows says what it does by the same clause: they stand once, here (d).
 pub trait Lent: Copy {
     // the rows of a slice
     ghost rows_in: { List Self → List Row };
@@ -78,6 +80,7 @@ pub trait Lent: Copy {
     fn set_links(rows: &mut [Self], at: u32, p: u32, n: u32)
         ensures { rows_in rows.new ≡ set (rows_in rows.old) at (with_links (get_or (rows_in rows.old) at blank) p n) };
 
+    // This and `set_prev` are no twins, here and in each form of rows: no parameter names a field (d).
     fn set_next(rows: &mut [Self], at: u32, n: u32)
         ensures { rows_in rows.new ≡ nexted (rows_in rows.old) at n };
 
@@ -132,6 +135,7 @@ impl Lent for Row {
         rows[i] = row;
     }
 
+    // No `From`: nothing else takes the links out of a row (d).
     fn links_at(rows: &[Row], at: u32) -> Links {
         let row = Row::get(rows, at);
         Links {
@@ -142,31 +146,41 @@ impl Lent for Row {
 
     fn set_links(rows: &mut [Row], at: u32, p: u32, n: u32) {
         let row = Row::get(rows, at);
-        Row::put(rows, at, rows::with_links(row, p, n));
+        Row::put(
+            rows,
+            at,
+            Row {
+                prev: p,
+                next: n,
+                ..row
+            },
+        );
     }
 
     fn set_next(rows: &mut [Row], at: u32, n: u32) {
         let row = Row::get(rows, at);
-        Row::put(rows, at, rows::with_next(row, n));
+        Row::put(rows, at, Row { next: n, ..row });
     }
 
     fn set_prev(rows: &mut [Row], at: u32, n: u32) {
         let row = Row::get(rows, at);
-        Row::put(rows, at, rows::with_prev(row, n));
+        Row::put(rows, at, Row { prev: n, ..row });
     }
 
     fn set_part(rows: &mut [Row], at: u32, part: Part) {
         let row = Row::get(rows, at);
-        Row::put(rows, at, rows::with_part(row, part));
+        Row::put(rows, at, Row { part, ..row });
     }
 
+    // No `From`: a glance is of a row and a key (d).
     fn look_at(rows: &[Row], at: u32, key: &Sought) -> Glance {
         let r = rows[at as usize];
+        let bytes = key.bytes;
         Glance {
             prev: r.prev,
             next: r.next,
             sound: rows::part_fits(r.part),
-            same: scans::same_key(key.bytes, r.key),
+            same: bytes == r.key,
         }
     }
 
@@ -175,6 +189,7 @@ impl Lent for Row {
     ghost leaves = { rows_left };
 }
 
+// The functions of crates `flat` and `glances` under the trait's names: those crates lie below the trait (d).
 impl Lent for u64 {
     ghost rows_in = { rows_of };
 
@@ -247,9 +262,8 @@ fn unlink<W: Lent>(rows: &mut [W], e: Ends, i: u32) -> Ends
 fn link_last<W: Lent>(rows: &mut [W], e: Ends, i: u32) -> Ends
     ensures { (result ≡ linked_ends e i) × (W.rows_in rows.new ≡ linked_rows (W.rows_in rows.old) e i) }
 {
-    let t = scans::tail_of(e);
-    W::set_links(rows, i, t, scans::no_row());
-    W::set_next(rows, t, i);
+    W::set_links(rows, i, e.tail, scans::no_row());
+    W::set_next(rows, e.tail, i);
     scans::linked_ends(e, i)
 }
 
@@ -258,7 +272,7 @@ pub fn release<W: Lent>(rows: &mut [W], e: Ends, i: u32) -> Ends
     ensures { (result ≡ released_ends (W.rows_in rows.old) e i) × (W.rows_in rows.new ≡ released_rows (W.rows_in rows.old) e i) }
 {
     let d = unlink(rows, e, i);
-    W::put(rows, i, rows::unmade_row(scans::free_of(e)));
+    W::put(rows, i, rows::unmade_row(e.free));
     scans::with_free(d, i)
 }
 
@@ -282,21 +296,21 @@ pub fn mark<W: Lent>(rows: &mut [W], e: Ends, i: u32, part: Part) -> Ends
 fn make_room<W: Lent>(rows: &mut [W], e: Ends) -> Ends
     ensures { (result ≡ room_ends (W.rows_in rows.old) e) × (W.rows_in rows.new ≡ room_rows (W.rows_in rows.old) e) }
 {
-    if scans::has_free(e) {
-        return e;
+    if scans::is_none(e.free) {
+        return release(rows, e, e.head);
     }
-    release(rows, e, scans::head_of(e))
+    e
 }
 
-// The first free row is taken for the key, and is the most recently used.
+// The first free row is taken for the key, and is the most recently used. Key and part, here and wherever a row is made, are two fields of it beside its links: a
+// struct of the two would be taken apart there (d).
 fn take_free<W: Lent>(rows: &mut [W], e: Ends, key: Key, part: Part) -> Ends
     ensures { (result ≡ taken_ends (W.rows_in rows.old) e) × (W.rows_in rows.new ≡ taken_rows (W.rows_in rows.old) e key part) }
 {
-    let i = scans::free_of(e);
+    let i = e.free;
     let old = W::get(rows, i);
     W::put(rows, i, rows::made_row(old, key, part));
-    let n = rows::next_of(old);
-    link_last(rows, scans::with_free(e, n), i)
+    link_last(rows, scans::with_free(e, old.next), i)
 }
 
 // A row is made for the key, where no row is free in place of the least recently used.
@@ -307,25 +321,27 @@ fn enter<W: Lent>(rows: &mut [W], e: Ends, key: Key, part: Part) -> Ends
     take_free(rows, d, key, part)
 }
 
-// The least recently used row.
-pub fn oldest<W: Lent>(rows: &[W], e: Ends) -> Row
-    ensures { result ≡ get_or (W.rows_in rows.now) e.head blank }
+// Writes the key's part and marks its row, in one step: the row that has the key, or one that is made.
+pub fn insert_active<W: Lent>(
+    rows: &mut [W],
+    e: Ends,
+    at: Option<u32>,
+    key: Key,
+    part: Part,
+) -> Seat
+    ensures { (result ≡ seat_of (W.rows_in rows.old) e at part) × (W.rows_in rows.new ≡ seated_rows (W.rows_in rows.old) e at key part) }
 {
-    W::get(rows, scans::head_of(e))
-}
-
-// Writes the key's part and marks its row, in one step: the row that was found, or one that is made.
-pub fn insert_active<W: Lent>(rows: &mut [W], e: Ends, l: Look, key: Key, part: Part) -> Seat
-    ensures { (result ≡ seat_of (W.rows_in rows.old) e l part) × (W.rows_in rows.new ≡ seated_rows (W.rows_in rows.old) e l key part) }
-{
-    if scans::is_no(l) {
-        let old = oldest(rows, e);
-        let d = enter(rows, e, key, part);
-        return rows::made_seat(e, old, d);
+    match at {
+        Some(i) => {
+            let d = mark(rows, e, i, part);
+            rows::kept_seat(d, i)
+        }
+        None => {
+            let old = W::get(rows, e.head);
+            let d = enter(rows, e, key, part);
+            rows::made_seat(e, old, d)
+        }
     }
-    let i = scans::at_of(l);
-    let f = mark(rows, e, i, part);
-    rows::kept_seat(f, i)
 }
 
 // ---- questions 1 to 3
@@ -334,27 +350,21 @@ pub fn insert_active<W: Lent>(rows: &mut [W], e: Ends, l: Look, key: Key, part: 
 fn step_by(s: Cursor, g: Glance) -> Cursor
     ensures { (row : Row) → g ≡ glance_of s.key row → result ≡ step_of s row }
 {
-    let left = s.left;
-    if left == 0 {
+    if s.left == 0 {
         return s;
     }
-    let k = s.key;
-    let broken = scans::both(s.back, g.prev != s.prev);
-    let fits = scans::negated(broken);
-    let sound = scans::both(s.sound, g.sound);
-    let found = scans::first_found(s.found, s.at, g.same);
     Cursor {
         at: g.next,
         prev: s.at,
-        left: left - 1,
-        back: s.back,
-        fits: fits,
-        sound: sound,
-        found: found,
-        key: k,
+        left: s.left - 1,
+        fits: scans::back_fits(s.back, g.prev, s.prev),
+        sound: s.sound && g.sound,
+        found: s.found.or(g.same.then_some(s.at)),
+        ..s
     }
 }
 
+// Along a chain of n rows: `count` divides, so n is asked once (d).
 fn scan<W: Lent>(rows: &[W], n: usize, s: Cursor, key: &Sought) -> Cursor
     requires { (n ≡ length (W.rows_in rows.now)) × (s.key ≡ key.now.bytes) }
     ensures { result ≡ scanned (W.rows_in rows.now) s }
@@ -367,13 +377,13 @@ fn scan<W: Lent>(rows: &[W], n: usize, s: Cursor, key: &Sought) -> Cursor
     c
 }
 
-// Questions 1 and 2 of the rows with m cells, and the row with the key. Each row is read once.
-pub fn look_up<W: Lent>(rows: &[W], m: usize, e: Ends, key: Key) -> Look
+// Questions 1 to 3 of the rows with m cells: the row with the key. Each row is read once, and no cell is: so m comes without them (d).
+pub fn look_up<W: Lent>(rows: &[W], m: usize, e: Ends, key: Key) -> Result<u32, Refusal>
     ensures { Looked (W.rows_in rows.now) m e key result }
 {
     let n = W::count(rows);
     if !rows::sizes_fit(n, m) {
-        return scans::no_one();
+        return Err(Refusal::Sizes);
     }
     let k = Sought::of(key);
     let used = scan(rows, n, scans::used_start(n, e, key), &k);
@@ -381,11 +391,14 @@ pub fn look_up<W: Lent>(rows: &[W], m: usize, e: Ends, key: Key) -> Look
     scans::look_of(n, e, used, free)
 }
 
-// The row that was found; the unmade one where none was.
-pub fn found<W: Lent>(rows: &[W], l: Look) -> Row
-    ensures { result ≡ get_or (W.rows_in rows.now) (at_of l) blank }
+// What a claim goes on from: the part of the row that has the key, or a fresh one.
+pub fn part_at<W: Lent>(rows: &[W], at: Option<u32>) -> Part
+    ensures { result ≡ part_at (W.rows_in rows.now) at }
 {
-    W::get(rows, scans::at_of(l))
+    match at {
+        Some(i) => W::get(rows, i).part,
+        None => rows::unmade().part,
+    }
 }
 
 // ---- fresh rows

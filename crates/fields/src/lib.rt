@@ -50,7 +50,8 @@ pub fn text_end(line: &[u8]) -> usize
     }
 }
 
-// The field that starts at `from`, none past the end of the text. The next one starts past the `sep` after it.
+// The field that starts at `from`, none past the end of the text. The next one starts past the `sep` after it. A place and no rest of the text:
+// an empty rest would not tell the end from a `sep` at the end (d).
 pub fn next_field(t: &[u8], from: usize, sep: u8) -> Result<Option<Field>, Stray>
     ensures { result ≡ field_at sep t.now from }
 {
@@ -70,7 +71,7 @@ pub fn next_field(t: &[u8], from: usize, sep: u8) -> Result<Option<Field>, Stray
     }))
 }
 
-// A part of the bytes, empty where there is no such part.
+// A part of the bytes, empty where there is no such part. Two numbers, here, in `to_front` and in `lines`: callers have both, a range would be made for the call (d).
 pub fn part(s: &[u8], start: usize, end: usize) -> &[u8]
     ensures { result.now ≡ part_of s.now start end }
 {
@@ -97,6 +98,7 @@ pub fn shown(s: &[u8]) -> usize
 }
 
 // Moves the bytes from `start` to `end` to the front of a buffer, and answers how many they are.
+// Its clause says that the two are a range, as in `lines`; of `numbers::read_on` the same words bound a number (d).
 pub fn to_front(buf: &mut [u8], start: usize, end: usize) -> usize
     requires { (start ≤ end) × (end ≤ length buf.old) }
     ensures { (result ≡ end - start) × (buf.new ≡ moved_to buf.old start (end - start)) }

@@ -1,7 +1,7 @@
 -- What a row's 25 words open as, by the tests that the code makes of them and of what is left of them from a place on.
 use Rattle.std.specs.Prelude.{Option}
 use mathlib.Core.Path.{◌≡◌, refl, sym, ◌∙◌, subst}
-use Prim.Native.Nat.{ℕ, ◌+◌, ◌<◌}
+use Prim.Native.Nat.{ℕ, ◌+◌, ◌-◌}
 use native.Mathlib.Omega.{arith}
 use mathlib.Core.Bool.{Bool, true, false, ◌&&◌}
 use mathlib.Core.List.{List}
@@ -18,23 +18,26 @@ use Rattle.flat.specs.Words.{numbers_fit, row_fits, heard_of, row_of, junk, open
 use Rattle.packing.specs.Words.{most32, most64, low32, key_of, maybe_fits, site_of, site_fits, id_of, verdict_of, verdict_fits}
 use Rattle.packing.proofs.Tests.{wide}
 
+module _ (ws : List ℕ) where
+  -- the words from the i-th on are all that is left
+  left : (i : ℕ) → take (length ws - i) (drop i ws) ≡ drop i ws
+  left i = take_all (length ws - i) (drop i ws) (omega (arith, length-drop i ws))
+
+  pub numbers_told : (r : Bool)
+      → r ≡ (maybe_fits most64 (take (length ws - 10) (drop 10 ws)) && (maybe_fits most64 (take (length ws - 12) (drop 12 ws)) && maybe_fits most64 (take (length ws - 23) (drop 23 ws)))) → r ≡ numbers_fit ws
+  numbers_told r e = simp (e, left 10, left 12, left 23)
+
+  -- the key's words and the degrees are in range by their type
+  pub fits_by_parts : ((i : ℕ) → Fits w64 (get_or ws i 0)) → (r : Bool)
+      → r ≡ ((leb (get_or ws 9 0) most32 && (leb (get_or ws 21 0) most32 && leb (get_or ws 22 0) most32)) && (site_fits (take (length ws - 4) (drop 4 ws)) && (numbers_fit ws && verdict_fits (take (length ws - 14) (drop 14 ws)))))
+      → r ≡ row_fits ws
+  unfolding row_fits
+  fits_by_parts f r e = simp (e, left 4, left 14, wide ws f, wide (drop 2 ws) (λ i. subst (Fits w64) (sym (get_or-drop 2 ws i 0)) (f (2 + i))))
+
 module _ (ws : List ℕ) (long : length ws ≡ 25) where
   -- the n words from the i-th on are all that is left
   rest : (i n : ℕ) → i + n ≡ 25 → take n (drop i ws) ≡ drop i ws
   rest i n e = take_all n (drop i ws) (omega (arith, long, e, length-drop i ws))
-
-  pub numbers_told : (r : Bool)
-      → r ≡ (maybe_fits most64 (take 15 (drop 10 ws)) && (maybe_fits most64 (take 13 (drop 12 ws)) && maybe_fits most64 (take 2 (drop 23 ws)))) → r ≡ numbers_fit ws
-  numbers_told r e = simp (e, rest 10 15 refl, rest 12 13 refl, rest 23 2 refl)
-
-  -- the key's words and the degrees are in range by their type
-  pub fits_by_parts : ((i : ℕ) → get_or ws i 0 < 18446744073709551616) → (r : Bool)
-      → r ≡ ((leb (get_or ws 9 0) most32 && (leb (get_or ws 21 0) most32 && leb (get_or ws 22 0) most32)) && (site_fits (take 21 (drop 4 ws)) && (numbers_fit ws && verdict_fits (take 11 (drop 14 ws)))))
-      → r ≡ row_fits ws
-  unfolding row_fits
-  fits_by_parts h r e =
-      let f : (i : ℕ) → Fits w64 (get_or ws i 0) = λ i. record { fits = h i } in
-      simp (e, rest 4 21 refl, rest 14 11 refl, wide ws f, wide (drop 2 ws) (λ i. subst (Fits w64) (sym (get_or-drop 2 ws i 0)) (f (2 + i))))
 
   pub heard_is : (s : Option Site) (g : ℕ) (e o : Option ℕ) → s ≡ site_of (take 21 (drop 4 ws)) → g ≡ low32 (get_or ws 9 0) → e ≡ id_of (take 15 (drop 10 ws)) → o ≡ id_of (take 13 (drop 12 ws))
       → record { site = s; generation = g; even = e; odd = o } ≡ heard_of ws

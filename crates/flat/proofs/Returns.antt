@@ -115,8 +115,8 @@ module _ (words : List ℕ) (r : Row) (rest : drop 4 words ≡ heard_words r.par
     from12,
     low_is r.part.heard.generation h.heard.generation,
     site_back_lem r.part.heard.site (r.part.heard.generation ∷ even_on r) h.heard.site,
-    id_back r.part.heard.even (odd_on r) h.heard.even,
-    id_back r.part.heard.odd (verdict_on r) h.heard.odd,
+    id_back r.part.heard.even (odd_on r),
+    id_back r.part.heard.odd (verdict_on r),
   )
 
   -- of the key, whatever its words are
@@ -124,7 +124,7 @@ module _ (words : List ℕ) (r : Row) (rest : drop 4 words ≡ heard_words r.par
   unfolding opened_of row_of
   opened_words k h w e =
       let v : verdict_of (drop 14 words) ≡ r.part.verdict = ap verdict_of from14 ∙ verdict_back_lem r.part.verdict (links r) h.verdict in
-      let c : id_of (drop 23 words) ≡ r.part.judged_ms = ap id_of from23 ∙ id_back r.part.judged_ms [] h.clock in
+      let c : id_of (drop 23 words) ≡ r.part.judged_ms = ap id_of from23 ∙ id_back r.part.judged_ms [] in
       let p : low32 (get_or words 21 0) ≡ r.prev = ap low32 at21 ∙ low_is r.prev h.prev in
       let n : low32 (get_or words 22 0) ≡ r.next = ap low32 at22 ∙ low_is r.next h.next in
       simp (words_fit h w, e, heard_back h, v, c, p, n)

@@ -1,5 +1,6 @@
 // Rows lent as plain numbers: 25 words of 64 bits each, so that they cross to C and Rust. A row is opened from its words and closed into them, field by
 // field with crate `packing`. `count`, `outside`, `get` and `put` ask nothing of the slice: words that no row was closed as open as a row that question 2 refuses.
+// The slice and a row's number in it come together, here and above: so rows are lent, and so links name them (a).
 #![tactic(auto)]
 
 ghost use Rattle.std.specs.Prelude.{◌≡◌, ◌&&◌, ◌∷◌, ◌<◌, ◌≤◌, ◌+◌, ◌*◌, leb, length, set, get_or, take, drop};
@@ -21,6 +22,7 @@ use verdicts::Verdict;
 
 // ---- a row
 
+// Into a slice that is no shorter than a row, as `put_clock` does: an array would ask more of callers (d).
 pub fn put_heard(words: &mut [u64], heard: Heard)
     requires { 25 ≤ length words.old }
     ensures { (words.new ≡ sets words.old 4 (row.heard_words heard)) × HeardIn heard }
@@ -48,6 +50,7 @@ fn put_tail(words: &mut [u64], p: u32, n: u32, kept: Option<u64>)
     put_clock(words, kept);
 }
 
+// Into a part of the lent slice, of a row's length: an array would be copied out and in (d).
 fn close(words: &mut [u64], row: Row)
     requires { length words.old ≡ 25 }
     ensures { (words.new ≡ closed_of row) × RowIn row }
@@ -59,14 +62,16 @@ fn close(words: &mut [u64], row: Row)
 }
 
 // A row's generation and links.
-fn links_fit(words: &[u64; 25]) -> bool
+fn links_fit(words: &[u64]) -> bool
+    requires { 25 ≤ length words.now }
     ensures { result ≡ (leb (get_or words.now 9 0) most32 && (leb (get_or words.now 21 0) most32 && leb (get_or words.now 22 0) most32)) }
 {
     u32::fits(words[9]) && u32::fits(words[21]) && u32::fits(words[22])
 }
 
-// Its ids and its clock.
-fn numbers_fit(words: &[u64; 25]) -> bool
+// Its ids and its clock. Asked of a slice that is no shorter than a row, as `row_fits` is: an array would ask more of callers (d).
+pub fn numbers_fit(words: &[u64]) -> bool
+    requires { 25 ≤ length words.now }
     ensures { result ≡ row.numbers_fit words.now }
 {
     packing::maybe_fits::<u64>(&words[10..])
@@ -75,7 +80,8 @@ fn numbers_fit(words: &[u64; 25]) -> bool
 }
 
 // Any two words are degrees, and any four a key.
-pub fn row_fits(words: &[u64; 25]) -> bool
+pub fn row_fits(words: &[u64]) -> bool
+    requires { 25 ≤ length words.now }
     ensures { result ≡ row_fits words.now }
 {
     links_fit(words)
@@ -84,6 +90,7 @@ pub fn row_fits(words: &[u64; 25]) -> bool
         && packing::verdict_fits(&words[14..])
 }
 
+// No `From`: 25 words are a row, and ten of them what it heard (d).
 fn heard_of(words: &[u64; 25]) -> Heard
     ensures { result ≡ row.heard_of words.now }
 {
@@ -193,7 +200,7 @@ pub fn get(rows: &[u64], at: u32) -> Row
     open(words_at(rows, at))
 }
 
-// A store at a link; none for a link that is no row's number.
+// A store at a link; none for a link that is no row's number. That the slice keeps its length, here and in `glances`, relates two states of it: no type holds that (d).
 pub fn put(rows: &mut [u64], at: u32, row: Row)
     ensures { (rows_of rows.new ≡ set (rows_of rows.old) at row) × (length rows.new ≡ length rows.old) }
 {

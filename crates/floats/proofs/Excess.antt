@@ -1,20 +1,19 @@
 -- The allowance is no NaN and not negative, so the excess of an edge of at most 800 is from 0 to 800. Assumes nothing.
 use Rattle.std.specs.Prelude.{Some, None}
 use mathlib.Core.Path.{◌≡◌, refl, sym, subst}
-use mathlib.Core.Bool.{Bool, true, false, not, cond}
+use mathlib.Core.Bool.{Bool, true, false, cond}
 use Prim.Native.Nat.{ℕ, zero, suc, ◌+◌, ◌-◌, ◌*◌, ◌/◌, ◌^◌, ◌≤◌, ◌<◌}
 use native.Mathlib.Nat.{le_trans, le_of_eq, mul-le-mul_right, mul_assoc, mul-one, mul-pos, sub-le, zero-lt-suc}
 use native.Mathlib.Omega.{arith}
-use lib.Dec.{T, leb, ltb, eqb, leb→le, le→leb, ltb→lt, not_T}
+use lib.Dec.{T, ltb, eqb, leb→le, le→leb, ltb→lt, not_T}
 use lib.IntN.{ℤ, pos}
-use lib.Ieee.{Float, nan, inf, fin, binary64, up, down, size, round, sum, add, sub, neg, mul, lt, eq, le, fits}
-use lib.Ieee.Fits.{down_pos, and_l, sub-fits}
+use lib.Ieee.{Float, nan, inf, fin, binary64, up, down, size, round, sum, add, sub, neg, mul, lt, eq, le}
+use lib.Ieee.Fits.{down_pos}
 use lib.Ieee.Bits.{is_false}
 use lib.Ieee.Order.{round_mono}
-use Rattle.root.specs.Root.{root, root_units, isqrt, plain, plus_zero}
+use Rattle.root.specs.Root.{root, root_units, isqrt, plus_zero}
 use Rattle.floats.specs.Horizon.{at_least_zero, horizon, allowance, four_twelve, eleven_tenths, twenty, past_of}
 use Rattle.measures.specs.Steps.{distance}
-use Rattle.rank.specs.Rank.{Good}
 use Rattle.root.proofs.Signs.{true_not_false}
 use Rattle.measures.proofs.Tests.{at_most}
 use Rattle.measures.proofs.Quotient.{plus, units_plus, round_plus}
@@ -143,17 +142,3 @@ unfolding past_of
 in_range edge a b km p h =
     let k = by_is (lt (allowance a b) edge) (sub binary64 edge (allowance a b)) km h in
     subst (λ (x : Float). T (distance x)) k.1 (excess edge (allowance a b) p (allowance_plus a b) k.0)
-
--- ---- so every excess is one of the values that `rank/proofs/Order.antt` puts in order
-
-distance_plain : (x : Float) → T (distance x) → T (plain x)
-unfolding distance
-distance_plain nan d = d
-distance_plain (inf s) d = d
-distance_plain (fin s m e) d = and_l (not s) (leb (m * up e) (800 * down e)) d
-
-pub excess_good : (edge a b km : Float) → T (distance edge) → past_of edge a b ≡ Some km → Good km
-unfolding past_of
-excess_good edge a b km p h =
-    let k = by_is (lt (allowance a b) edge) (sub binary64 edge (allowance a b)) km h in
-    (subst (λ (x : Float). T (fits binary64 x)) k.1 (sub-fits binary64 edge (allowance a b)), distance_plain km (in_range edge a b km p h))

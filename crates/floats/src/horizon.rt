@@ -6,7 +6,7 @@ ghost use Rattle.root.specs.Root.{root};
 ghost use Rattle.floats.specs.Horizon.{at_least_zero, four_twelve, horizon, antenna_of, ceiling_of};
 ghost use Rattle.floats.specs.Rooted.{allowance_from, past_from};
 
-// x, or +0 where x is a NaN, negative or either zero.
+// x, or +0 where x is a NaN, negative or either zero. `f64::max` may give either zero for two of them, so it is no maximum (d).
 pub fn at_least_zero(x: f64) -> f64
     ensures { result ≡ at_least_zero x }
 {
@@ -21,6 +21,7 @@ pub fn root_of(height_m: f64) -> f64
 }
 
 // 4.12 × (√a + √b), from the two roots.
+#[tactic(auto, using(crate::proofs::Literals::four_twelve_lem))]
 fn from_roots(a: f64, b: f64) -> f64
     ensures { result ≡ mul binary64 four_twelve (add binary64 a b) }
 {
@@ -28,6 +29,7 @@ fn from_roots(a: f64, b: f64) -> f64
 }
 
 // The radio horizon, kilometres, of an antenna and an aircraft so many metres above the surface.
+#[tactic(auto, unfolding(crate::specs::Horizon::horizon))]
 pub fn horizon_km(antenna_m: f64, aircraft_m: f64) -> f64
     ensures { result ≡ horizon antenna_m aircraft_m }
 {
@@ -36,6 +38,7 @@ pub fn horizon_km(antenna_m: f64, aircraft_m: f64) -> f64
 }
 
 // What a bin's edge may be at most: 1.1 × horizon + 20. The antenna goes in by its root, which is taken once for all bins.
+#[tactic(auto, using(crate::proofs::Literals::eleven_tenths_lem, crate::proofs::Literals::twenty_is), unfolding(crate::specs::Rooted::allowance_from))]
 pub fn allowance_km(antenna_root: f64, aircraft_m: f64) -> f64
     ensures { result ≡ allowance_from antenna_root aircraft_m }
 {
@@ -46,10 +49,11 @@ pub fn allowance_km(antenna_root: f64, aircraft_m: f64) -> f64
 pub fn antenna_m(alt: i32) -> f64
     ensures { result ≡ antenna_of alt }
 {
-    if alt > 0 { alt as f64 + 100.0 } else { 100.0 }
+    alt.max(0) as f64 + 100.0
 }
 
 // The upper edge of an altitude bucket of 500 feet, in metres: ((low + 1) × 500) × 0.3048.
+#[tactic(auto, using(crate::proofs::Literals::foot_is), unfolding(crate::specs::Horizon::ceiling_of))]
 pub fn ceiling_m(low: u8) -> f64
     ensures { result ≡ ceiling_of low }
 {
@@ -58,6 +62,7 @@ pub fn ceiling_m(low: u8) -> f64
 }
 
 // By how much an edge is past the allowance, if it is.
+#[tactic(auto, unfolding(crate::specs::Rooted::past_from))]
 pub fn past_by(edge_km: f64, antenna_root: f64, aircraft_m: f64) -> Option<f64>
     ensures { result ≡ past_from edge_km antenna_root aircraft_m }
 {

@@ -1,5 +1,6 @@
 // One row of the lent words without opening it: its links, and what the search for a key asks of it, read from the words that hold them; and stores of
-// its links or its part alone. A row with a word out of range is opened whole, and stored whole.
+// its links or its part alone. A row with a word out of range is opened whole, and stored whole. A link that is none is the largest u32, as in the words, and rows are a
+// slice and a number in it, as in `flat` (a).
 #![tactic(auto)]
 
 ghost use Rattle.std.specs.Prelude.{◌≡◌, true, ◌<◌, ◌≤◌, length, set, get_or, drop};
@@ -16,15 +17,16 @@ ghost use Rattle.packing.specs.Words.{key_of, site_of, verdict_of};
 use measures::degrees;
 use packing::Word;
 use receiver::Part;
+use rows::Row;
 
-// A row's links.
+// A row's links, here and below as they are lent: row numbers, none the largest u32 (a).
 #[derive(Clone, Copy)]
 pub struct Links {
     pub prev: u32,
     pub next: u32,
 }
 
-// What a step along a chain asks of a row: its links, whether its part is sound, and whether it has the key.
+// What a step along a chain asks of a row: its links, whether its part is sound, and whether it has the key. Flat, since a step takes each of them by itself (d).
 #[derive(Clone, Copy)]
 pub struct Glance {
     pub prev: u32,
@@ -43,6 +45,7 @@ fn fits_at(rows: &[u64], at: u32) -> bool
     flat::row_fits(flat::words_at(rows, at))
 }
 
+// No `From`: 25 words are a row, and two of them its links (d).
 fn links_of(words: &[u64; 25]) -> Links
     ensures { result ≡ links_of (row_of words.now) }
 {
@@ -167,7 +170,12 @@ pub fn set_links(rows: &mut [u64], at: u32, p: u32, n: u32)
         return;
     }
     let row = flat::get(rows, at);
-    flat::put(rows, at, rows::with_links(row, p, n));
+    let linked = Row {
+        prev: p,
+        next: n,
+        ..row
+    };
+    flat::put(rows, at, linked);
 }
 
 pub fn set_part(rows: &mut [u64], at: u32, part: Part)
@@ -180,7 +188,7 @@ pub fn set_part(rows: &mut [u64], at: u32, part: Part)
         return;
     }
     let row = flat::get(rows, at);
-    flat::put(rows, at, rows::with_part(row, part));
+    flat::put(rows, at, Row { part, ..row });
 }
 
 pub fn set_next(rows: &mut [u64], at: u32, n: u32)

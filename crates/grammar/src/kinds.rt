@@ -94,6 +94,7 @@ fn turn_line(r: &mut Reader<'_>) -> Result<Said, Fault>
     unkeyed(r, Name::Room, Line::Turn { next, k, room })
 }
 
+// Not one with `same_line`: they share their reader, `four`, and each builds a variant of its own (d).
 #[tactic(auto, unfolding(crate::specs::Lines::place_line))]
 fn place_line(r: &mut Reader<'_>) -> Result<Said, Fault>
     ensures { left result r.new ≡ place_line r.old }
@@ -148,6 +149,7 @@ fn bit_line(r: &mut Reader<'_>) -> Result<Said, Fault>
     unkeyed(r, Name::Address, bit)
 }
 
+// Not one with `cell_line`: the names of the fields and the variant differ, and there is nothing else in it (d).
 #[tactic(auto, unfolding(crate::specs::Lines::lend_line))]
 fn lend_line(r: &mut Reader<'_>) -> Result<Said, Fault>
     ensures { left result r.new ≡ lend_line r.old }

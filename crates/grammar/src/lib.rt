@@ -6,6 +6,7 @@ mod kinds;
 ghost use Rattle.std.specs.Prelude.{◌≡◌};
 ghost use Rattle.grammar.specs.Lines.{call_of, return_at_end, text_of, line_of};
 
+use fields::Field;
 use heard::Position;
 use readers::{Fault, Reader};
 use receiver::Part;
@@ -23,7 +24,7 @@ pub enum Call {
     Judging { now_ms: u64, aircraft: u64 },
 }
 
-// A line that writes the watch word by word; a row's key stands beside it.
+// A line that writes the watch word by word; a row's key stands beside it. Links and ends are row numbers as they are lent, none the largest u32 (a).
 #[derive(Clone, Copy)]
 pub enum Change {
     Lend {
@@ -91,13 +92,13 @@ pub struct Said {
     pub key: [u8; 32],
 }
 
-// The call whose word ends at `end` and whose first field starts at `next`.
+// The call whose word is this field.
 #[tactic(auto, unfolding(crate::specs::Lines::call_of))]
-fn called(t: &[u8], end: usize, next: usize) -> Result<Said, Fault>
-    ensures { result ≡ call_of t.now end next }
+fn called(t: &[u8], f: Field) -> Result<Said, Fault>
+    ensures { result ≡ call_of t.now f.end f.next }
 {
-    let mut r = Reader::new(t, next, b' ');
-    kinds::line_by(&mut r, fields::part(t, 0, end), end)
+    let mut r = Reader::new(t, f.next, b' ');
+    kinds::line_by(&mut r, fields::part(t, 0, f.end), f.end)
 }
 
 #[tactic(auto, unfolding(crate::specs::Lines::return_at_end))]
@@ -116,7 +117,7 @@ fn text(t: &[u8]) -> Result<Option<Said>, Fault>
         return Err(Fault::StrayReturn);
     }
     match fields::next_field(t, 0, b' ')? {
-        Some(f) => Ok(Some(called(t, f.end, f.next)?)),
+        Some(f) => Ok(Some(called(t, f)?)),
         None => Ok(None),
     }
 }

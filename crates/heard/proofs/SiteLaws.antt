@@ -1,14 +1,12 @@
 -- For the code: one law for each way out of a function, its premises as the code leaves them.
-use Rattle.std.proofs.Common.{◌≡◌, ℕ, ◌+◌, ◌<◌, ◌≤◌, Bool, true, false, cond, not, List, length, get_or, set, replicate, sym, refl, ap, ◌∙◌, arith, Option}
+use Rattle.std.proofs.Common.{◌≡◌, ℕ, ◌+◌, ◌<◌, ◌≤◌, Bool, true, false, cond, not, List, length, get_or, set, replicate, sym, refl, ap, ◌∙◌, arith, Option, Result, Ok}
 use lib.Seq.{sets, length-sets}
-use Rattle.table.specs.Machine.{refuse}
 use Rattle.cells.specs.Cells.{empty_word, added_word, bucket_of, aircraft_bit}
 use Rattle.sites.specs.Sites.{placed}
 use Rattle.sites.specs.declared.Site.{Site}
 use Rattle.heard.specs.declared.Heard.{Heard}
 use Rattle.heard.specs.declared.Position.{Position}
 use Rattle.heard.specs.declared.Counting.{Counting}
-use Rattle.heard.specs.declared.Hearing.TheVariants as Hearings
 use Rattle.heard.specs.Heard.{half, width, epoch_of, is_even, held_id, with_id, not_older, holds_id, start_of, emptied, counted_at, on_site}
 use Rattle.heard.specs.Answers.{half_before, counting_is, hearing_is, CountingFits, HearingFits}
 
@@ -25,16 +23,10 @@ start_odd b e = (rw e (sym half_is), omega (arith, half_is))
 
 -- A POSITION heard around the site
 module _ (h : Heard) (s : Site) (p : Position) (id : ℕ) (e : Bool) (i : Option ℕ) (id_is : id ≡ epoch_of p.at_ms) (even_is : e ≡ is_even id) (held_is : i ≡ held_id e h) where
-  pub late_is : (b : Bool) → b ≡ not_older i id → b ≡ false → ((l : List ℕ) → hearing_is Hearings.Late l ≡ on_site h l s p (epoch_of p.at_ms)) × HearingFits Hearings.Late
-  late_is b q r = ((λ l. go l), tt)
-    where
-      go : (l : List ℕ) → refuse 6 ≡ on_site h l s p (epoch_of p.at_ms)
-      go l = rw (← id_is, ← even_is, ← held_is, sym q ∙ r)
-
   pub counted_is : (b : Bool) (k : Heard) (n : Bool) (st pl low bit : ℕ) → b ≡ not_older i id → b ≡ true → k ≡ with_id e id h → n ≡ not (holds_id i id) → (st ≡ start_of e) × (st ≤ half) →
       (pl ≡ placed s.lat s.lon p.lat p.lon) × (pl < 1672) → low ≡ bucket_of p.feet → bit ≡ aircraft_bit p.address →
-      ((l : List ℕ) → hearing_is (Hearings.In (record { heard = k; newer = n; start = st; place = pl; low = low; bit = bit })) l ≡ on_site h l s p (epoch_of p.at_ms))
-      × HearingFits (Hearings.In (record { heard = k; newer = n; start = st; place = pl; low = low; bit = bit }))
+      ((l : List ℕ) → hearing_is (Ok (record { heard = k; newer = n; start = st; place = pl; low = low; bit = bit })) l ≡ on_site h l s p (epoch_of p.at_ms))
+      × HearingFits (Ok (record { heard = k; newer = n; start = st; place = pl; low = low; bit = bit }))
   unfolding counting_is half_before counted_at emptied
   counted_is b k n st pl low bit q t k_is n_is st_is pl_is lowIs bitIs = ((λ l. go l), (st_is.1, omega (arith, pl_is.1, half_is)))
     where
@@ -42,14 +34,8 @@ module _ (h : Heard) (s : Site) (p : Position) (id : ℕ) (e : Bool) (i : Option
       swap true x y = refl
       swap false x y = refl
 
-      go : (l : List ℕ) → hearing_is (Hearings.In (record { heard = k; newer = n; start = st; place = pl; low = low; bit = bit })) l ≡ on_site h l s p (epoch_of p.at_ms)
+      go : (l : List ℕ) → hearing_is (Ok (record { heard = k; newer = n; start = st; place = pl; low = low; bit = bit })) l ≡ on_site h l s p (epoch_of p.at_ms)
       go l = rw (← id_is, ← even_is, ← held_is, sym q ∙ t, k_is, n_is, st_is.0, pl_is.0, lowIs, bitIs, swap)
-
-pub record Emptying (l₀ : List ℕ) (from n b : ℕ) (l : List ℕ) (j : ℕ) : Type 0 where
-  pub blank : b ≡ empty_word
-  pub upto : j ≤ n
-  pub long : length l ≡ length l₀
-  pub is : l ≡ sets l₀ from (replicate j empty_word)
 
 pub half_long : (c : Counting) (l : List ℕ) → length (half_before c l) ≡ length l
 unfolding half_before

@@ -2,7 +2,7 @@
 // position, decided by value; the cells are a slice that is lent.
 #![tactic(auto)]
 
-ghost use Rattle.std.specs.Prelude.{◌≡◌, ℕ, ◌+◌, ◌<◌, ◌≤◌, true, not, List, length, replicate};
+ghost use Rattle.std.specs.Prelude.{◌≡◌, ℕ, ◌+◌, ◌<◌, ◌≤◌, true, not, List, length, replicate, Ok};
 ghost use Rattle.std.proofs.lemmas.List.Edits.{sets};
 ghost use Rattle.cells.specs.Cells.{empty_word};
 ghost use Rattle.measures.specs.Degrees.{in_degrees};
@@ -11,8 +11,10 @@ ghost use Rattle.heard.specs.Heard as heard;
 ghost use Rattle.heard.specs.Answers.{claiming_is, half_before, counting_is, hearing_is, CountingFits, HearingFits};
 
 use sites::Site;
+use table::Refusal;
 
-// What is kept around the site that a row claims: which site, how often it moved, whose positions each half of the cells counts.
+// What is kept around the site that a row claims: which site, how often it moved, whose positions each half of the cells counts. A lent row may hold any site: that
+// it is within degrees stands in clauses (a).
 #[derive(Clone, Copy)]
 pub struct Heard {
     pub site: Option<Site>,
@@ -31,12 +33,11 @@ pub struct Position {
     pub at_ms: u64,
 }
 
-// What a claim comes to: refused (4), the same place, or a move.
+// What an accepted claim comes to: what is kept then, and whether it is a move.
 #[derive(Clone, Copy)]
-pub enum Claiming {
-    Refused,
-    Stayed(Heard),
-    Moved(Heard),
+pub struct Claiming {
+    pub heard: Heard,
+    pub moved: bool,
 }
 
 // Where a position is counted: its half starts at `start`, and is emptied first if the id is newer or the first.
@@ -48,15 +49,6 @@ pub struct Counting {
     pub place: u16,
     pub low: u8,
     pub bit: u16,
-}
-
-// What a position comes to: refused (4, 5, 6), or counted.
-#[derive(Clone, Copy)]
-pub enum Hearing {
-    Outside,
-    Siteless,
-    Late,
-    In(Counting),
 }
 
 // A fresh row's.
@@ -94,56 +86,67 @@ fn kept_site(h: Heard, old: Site, site: Site) -> Heard
     }
 }
 
-// Another site, or none: what is kept starts over.
-fn moved_to(h: Heard, site: Option<Site>) -> Heard
-    ensures { result ≡ heard.moved_to h site }
+fn stayed(h: Heard) -> Claiming
+    ensures { (l : List ℕ) → claiming_is (Ok result) l ≡ heard.stay h l }
 {
-    Heard {
-        site,
-        generation: h.generation.wrapping_add(1),
-        even: None,
-        odd: None,
+    Claiming {
+        heard: h,
+        moved: false,
+    }
+}
+
+// Another site, or none: what is kept starts over.
+fn moved_to(h: Heard, site: Option<Site>) -> Claiming
+    ensures { (l : List ℕ) → claiming_is (Ok result) l ≡ heard.move h site }
+{
+    Claiming {
+        heard: Heard {
+            site,
+            generation: h.generation.wrapping_add(1),
+            even: None,
+            odd: None,
+        },
+        moved: true,
     }
 }
 
 fn to_site(h: Heard, site: Site) -> Claiming
     requires { (heard.site_fits h.site ≡ true) × (held site ≡ true) }
-    ensures { (l : List ℕ) → claiming_is result l ≡ heard.claimed_site h l site h.site }
+    ensures { (l : List ℕ) → claiming_is (Ok result) l ≡ heard.claimed_site h l site h.site }
 {
     match h.site {
         Some(old) => {
             if sites::same_place(old, site) {
-                return Claiming::Stayed(kept_site(h, old, site));
+                return stayed(kept_site(h, old, site));
             }
-            Claiming::Moved(moved_to(h, Some(site)))
+            moved_to(h, Some(site))
         }
-        None => Claiming::Moved(moved_to(h, Some(site))),
+        None => moved_to(h, Some(site)),
     }
 }
 
+// No site is claimed: a move, if one was kept. Each arm comes to something else (d).
 fn to_none(h: Heard) -> Claiming
-    ensures { (l : List ℕ) → claiming_is result l ≡ heard.claimed_none h l h.site }
+    ensures { (l : List ℕ) → claiming_is (Ok result) l ≡ heard.claimed_none h l h.site }
 {
     match h.site {
-        Some(_) => Claiming::Moved(moved_to(h, None)),
-        None => Claiming::Stayed(h),
+        Some(_) => moved_to(h, None),
+        None => stayed(h),
     }
 }
 
 // The site claimed now: one more than a kilometre from the one kept for starts what is kept over.
-pub fn set_site(h: Heard, site: Option<Site>) -> Claiming
+pub fn set_site(h: Heard, site: Option<Site>) -> Result<Claiming, Refusal>
     requires { heard.site_fits h.site ≡ true }
     ensures { (l : List ℕ) → claiming_is result l ≡ heard.claimed h l site }
 {
-    match site {
-        Some(s) => {
-            if sites::in_degrees(s) {
-                return to_site(h, s);
-            }
-            Claiming::Refused
-        }
-        None => to_none(h),
+    let Some(s) = site else {
+        return Ok(to_none(h));
+    };
+    if !sites::in_degrees(s) {
+        return Err(Refusal::Degrees);
     }
+    Ok(to_site(h, s))
 }
 
 fn is_even(id: u64) -> bool
@@ -189,6 +192,7 @@ fn is_newer(held: Option<u64>, id: u64) -> bool
     }
 }
 
+// Where a half of a row's cells starts: one of two places, which no conversion of a truth says plainer (d).
 fn start_of(even: bool) -> u16
     ensures { (result ≡ heard.start_of even) × (result ≤ heard.half) }
 {
@@ -196,7 +200,7 @@ fn start_of(even: bool) -> u16
 }
 
 // A position heard around the site: too late for its half, or counted there.
-fn heard_at(h: Heard, s: Site, p: Position) -> Hearing
+fn heard_at(h: Heard, s: Site, p: Position) -> Result<Counting, Refusal>
     requires { (held s ≡ true) × (in_degrees p.lat p.lon ≡ true) }
     ensures { ((l : List ℕ) → hearing_is result l ≡ heard.on_site h l s p (heard.epoch_of p.at_ms)) × HearingFits result }
 {
@@ -204,7 +208,7 @@ fn heard_at(h: Heard, s: Site, p: Position) -> Hearing
     let even = is_even(id);
     let held = held_id(even, h);
     if not_older(held, id) {
-        return Hearing::In(Counting {
+        return Ok(Counting {
             heard: with_id(even, id, h),
             newer: is_newer(held, id),
             start: start_of(even),
@@ -213,21 +217,19 @@ fn heard_at(h: Heard, s: Site, p: Position) -> Hearing
             bit: cells::aircraft_bit(p.address),
         });
     }
-    Hearing::Late
+    Err(Refusal::TooOld)
 }
 
 // A position that the receiver heard.
-pub fn hear(h: Heard, p: Position) -> Hearing
+pub fn hear(h: Heard, p: Position) -> Result<Counting, Refusal>
     requires { heard.site_fits h.site ≡ true }
     ensures { ((l : List ℕ) → hearing_is result l ≡ heard.positioned h l p) × HearingFits result }
 {
     if measures::degrees::in_degrees(p.lat, p.lon) {
-        return match h.site {
-            Some(s) => heard_at(h, s, p),
-            None => Hearing::Siteless,
-        };
+        let s = h.site.ok_or(Refusal::NoSite)?;
+        return heard_at(h, s, p);
     }
-    Hearing::Outside
+    Err(Refusal::Degrees)
 }
 
 // n cells from `from` become empty.

@@ -11,14 +11,14 @@ ghost use Rattle.judge.specs.Judging.{if_outside, horizon_off, after_horizon, ju
 use measures::steps;
 use near_field::{Evidence, Judgment, near};
 use sites::Site;
-use view::Far;
+use view::{Far, Halves, Merged};
 
 // The nothing-near distance, if outside and there is one.
-fn empty_outside(grid: &[u32; 1600], far: Far, outside: bool) -> Option<u32>
-    ensures { result ≡ if_outside outside (nothing_near grid.now far) }
+fn empty_outside(m: Merged, outside: bool) -> Option<u32>
+    ensures { result ≡ if_outside outside (nothing_near m.entry.grid.now m.entry.far) }
 {
     if outside {
-        nothing_near::nothing_near(grid, far)
+        nothing_near::nothing_near(m)
     } else {
         None
     }
@@ -36,8 +36,8 @@ fn horizon_off(empty: Option<u32>, excess: f64) -> u32
 }
 
 // What is judged where nothing is past the horizon.
-fn after_horizon(empty: Option<u32>, grid: &[u32; 1600], far: Far, outside: bool) -> Judgment
-    ensures { result ≡ after_horizon empty grid.now far outside }
+fn after_horizon(empty: Option<u32>, m: Merged, outside: bool) -> Judgment
+    ensures { result ≡ after_horizon empty m.entry.grid.now m.entry.far outside }
 {
     match empty {
         Some(km) => Judgment::Wrong {
@@ -45,26 +45,26 @@ fn after_horizon(empty: Option<u32>, grid: &[u32; 1600], far: Far, outside: bool
             by: Evidence::NothingNear,
         },
         None => {
-            if nothing_near::places_in(grid, far) < 12 {
+            if nothing_near::places_in(m) < 12 {
                 return Judgment::Unjudged;
             }
-            near::near_field(grid, outside)
+            near::near_field(m.grid, outside)
         }
     }
 }
 
 // The judging of the merged cells.
-fn judge_cells(site: Site, grid: &[u32; 1600], far: Far) -> Judgment
-    ensures { result ≡ judge_cells site grid.now far }
+fn judge_cells(site: Site, m: Merged) -> Judgment
+    ensures { result ≡ judge_cells site m.entry.grid.now m.entry.far }
 {
-    let outside = outside::outside(grid, far);
-    let empty = empty_outside(grid, far, outside);
-    match past_horizon::past_horizon(site, far) {
+    let outside = outside::outside(m);
+    let empty = empty_outside(m, outside);
+    match past_horizon::past_horizon(site, m.far) {
         Some(excess) => Judgment::Wrong {
             off_km: horizon_off(empty, excess),
             by: Evidence::Horizon,
         },
-        None => after_horizon(empty, grid, far, outside),
+        None => after_horizon(empty, m, outside),
     }
 }
 
@@ -92,7 +92,7 @@ fn after_far(empty: Option<u32>) -> Judgment
     }
 }
 
-// The judging of the merged bins where no cell of the grid is occupied.
+// The judging of the merged bins where no cell of the grid is occupied. Site and bins stay two, as in `past_horizon`: what is claimed and what was heard (d).
 fn judge_far(site: Site, far: Far) -> Judgment
     ensures { (grid : List ℕ) → Unheard grid → result ≡ judge_cells site grid far }
 {
@@ -109,22 +109,23 @@ fn judge_far(site: Site, far: Far) -> Judgment
 
 // The judging of a row's cells. Where no half is merged there is no place, and nothing need be looked at; where no cell of the
 // grid is occupied the bins alone are judged.
-fn judge_row(site: Site, cells: &[u32], even: bool, odd: bool) -> Judgment
-    requires { length cells.now ≡ 3344 }
-    ensures { result ≡ judge_row site cells.now even odd }
+fn judge_row(site: Site, halves: Halves) -> Judgment
+    ensures { result ≡ judge_row site halves.entry.cells.now halves.entry.even halves.entry.odd }
 {
+    let even = halves.even;
+    let odd = halves.odd;
     if even || odd {
-        let far = view::far_view(cells, even, odd);
-        if view::grid_heard(cells, even, odd) {
-            let grid = view::grid_view(cells, even, odd);
-            return judge_cells(site, &grid, far);
+        let far = halves.far_view();
+        if halves.grid_heard() {
+            let grid = halves.grid_view();
+            return judge_cells(site, Merged { grid: &grid, far });
         }
         return judge_far(site, far);
     }
     Judgment::Unjudged
 }
 
-// Judges the claimed site at now_ms, the receiver having heard so many distinct aircraft.
+// Judges the claimed site at now_ms, the receiver having heard so many distinct aircraft: the two words of the call (01), as C gives them (a).
 pub fn judge(
     site: Option<Site>,
     even: Option<u64>,
@@ -141,9 +142,12 @@ pub fn judge(
             if aircraft < 15 {
                 return Judgment::Unjudged;
             }
-            let e = view::kept_at(even, now_ms);
-            let o = view::kept_at(odd, now_ms);
-            judge_row(s, cells, e, o)
+            let halves = Halves {
+                cells,
+                even: view::kept_at(even, now_ms),
+                odd: view::kept_at(odd, now_ms),
+            };
+            judge_row(s, halves)
         }
         None => Judgment::Unjudged,
     }

@@ -43,7 +43,7 @@ fn mix_three(h: u64, a: u64, b: u64, c: u64) -> u64
     mix(mix_two(h, a, b), c)
 }
 
-// None is 2^64 − 1.
+// None, the largest u32 as in the words that are lent (a), is 2^64 − 1 in a digest.
 #[tactic(auto, unfolding(crate::specs::Digests::link_word))]
 fn link_word(n: u32) -> u64
     ensures { result ≡ link_word n }
@@ -154,6 +154,7 @@ fn mix_row(h: u64, row: Row) -> u64
 
 // ---- the watch
 
+// n is how many rows these are, which `flat::count` would find by a division (d).
 fn mix_rows(h: u64, rows: &[u64], n: u32) -> u64
     requires { n ≡ length (rows_of rows.now) }
     ensures { result ≡ mixed_all h (rows_words (map row_is (rows_of rows.now))) }
@@ -191,7 +192,7 @@ fn first_hash() -> u64
     14695981039346656037
 }
 
-// Of n rows, with their cells and ends.
+// Of n rows, with their cells and ends: the parts of the watch that are in use, cut out of it for this call (d).
 pub fn of_all(n: u32, rows: &[u64], cells: &[u32], ends: &[u32; 3]) -> u64
     requires { n ≡ length (rows_of rows.now) }
     ensures { result ≡ digest_of (watch_is (rows_of rows.now) cells.now ends.now) }

@@ -1,4 +1,5 @@
-// A watch in a lent piece of memory: its digest, and the lines that write it word by word, junk allowed.
+// A watch in a lent piece of memory: its digest, and the lines that write it word by word, junk allowed. More is lent than is in
+// use: n says how much of a slice is, and `at` which row or cell of it a line names (a).
 #![tactic(auto)]
 
 mod digest;
@@ -25,6 +26,7 @@ pub struct Size {
 
 // ---- lend
 
+// n is how many rows these are, which `flat::count` would find by a division (d).
 fn unmake(rows: &mut [u64], n: u32)
     requires { n ≡ length (rows_of rows.old) }
     ensures { rows_of rows.new ≡ replicate n blank }
@@ -56,6 +58,7 @@ pub fn set_ends(ends: &mut [u32; 3], first: u32, last: u32, free: u32)
     *ends = [first, last, free];
 }
 
+// An end that is none is the largest u32, as it is lent (a).
 pub fn no_ends(ends: &mut [u32; 3])
     ensures { ends.new ≡ no_ends }
 {

@@ -12,7 +12,7 @@ pub struct Watch<'a> {
     pub rows: &'a mut [u64],
     pub cells: &'a mut [u32],
     pub ends: &'a mut [u32; 3],
-    // That 64 rows are lent stands in clauses: a digest and a tick do not ask it, and a field would ask it of their callers.
+    // That 64 rows are lent stands in clauses: a digest and a tick do not ask it, and a field would ask it of their callers (d).
     pub ghost fits: { Within size rows.now cells.now },
 }
 
@@ -21,7 +21,7 @@ impl<'a> Watch<'a> {
     ghost use Rattle.lending.specs.Lendings.{Room, lent_to, Applied};
     ghost use Rattle.lending.specs.Digests.{digest_of};
 
-    // One of the four lines; `key` is the row's. An error leaves all as it was.
+    // One of the four lines; `key` is the row's. An error leaves all as it was. Each arm stores what its line holds (d).
     #[tactic(auto, using(crate::proofs::Writing::lent_within, crate::proofs::Writing::applied_not, crate::proofs::Writing::applied_lent, crate::proofs::Writing::applied_row, crate::proofs::Writing::applied_cell, crate::proofs::Writing::applied_ends))]
     pub fn apply(&mut self, asked: Change, key: Key) -> Result<(), Fault>
         requires { Room self.old.rows.now self.old.cells.now }

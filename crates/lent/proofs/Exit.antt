@@ -17,14 +17,16 @@ use Rattle.table.proofs.Rep.{question_one_yes, question_two_yes}
 use Rattle.table.proofs.Made.{up_from, fresh_rep}
 use Rattle.table.proofs.Safe.{passes_again, drop_passes}
 use Rattle.receiver.specs.declared.Part.{Part}
-use Rattle.receiver.specs.Calls.{Act, Out, kind, freed, siting, fresh_call, drop_oldest, call_on}
+use Rattle.receiver.specs.Calls.{Act, Out, generation_is, judgment_is, says, freed, done, kind, siting, fresh_call, drop_oldest, call_on}
 use Rattle.receiver.proofs.Keeps.{lawful}
 use Rattle.rows.specs.Read.{form, row_is, watch_is}
 use Rattle.rows.specs.declared.Row.{Row}
 use Rattle.chains.specs.Lent.{LeftLaws}
-use Rattle.moves.specs.declared.Answer.{Answer}
-use Rattle.moves.specs.Answers.{answer_is, outcome}
-use Rattle.lent.specs.Refusal.{is_no, Untouched}
+use Rattle.moves.specs.declared.Word.TheVariants as Wd
+use Rattle.moves.specs.Answers.{Answer, answer_is, outcome}
+use Rattle.std.specs.Prelude.{Option, None, Ok, Err}
+use Rattle.table.specs.Refusals.{number_of}
+use Rattle.table.specs.declared.Refusal.{Refusal}
 
 -- A STEP THAT IS ACCEPTED leaves a watch in order
 abbrev Passes : Watch Part → Type 0
@@ -69,25 +71,30 @@ rows_sound : (w : Watch Part) → question2 form w ≡ true → all_sound form.s
 unfolding question2
 rows_sound w q = and_2 (chains_match form.unmade w (chain form.unmade w.rows (length w.rows) w.ends.head) (chain form.unmade w.rows (length w.rows) w.ends.free)) (all_sound form.sound w.rows) q
 
--- WHAT IS LENT, AT EXIT
-module _ {X : Type 0} {rows_in : List X → List Row} {left : M.Answer Out → List X → List X → Type 0} (laws : LeftLaws rows_in left) (r : Answer) (before after : List X) (ys es : List ℕ) where
-  by_answer : (a : M.Answer Out) → (is_no a ≡ true → after ≡ before) → InOrder a (watch_is (rows_in after) ys es) → left a before after
-  by_answer (refused n) u k = subst (left (refused n) before) (sym (u refl)) (laws.leaves n before)
-  by_answer (said pushed out) u k =
+-- WHAT IS LENT, AT EXIT of a call whose answer is r: a refusal changes nothing of it (`u`), and what an accepted call leaves its equation says
+module _ {X : Type 0} {rows_in : List X → List Row} {left : M.Answer Out → List X → List X → Type 0} (laws : LeftLaws rows_in left) (before after : List X) (ys es : List ℕ) where
+  said_leaves : (p : Option M.Key) (out : Out) (s : Step (Watch Part) Out) → ◌≡◌ {A = Step (Watch Part) Out} (record { next = watch_is (rows_in after) ys es; answer = said p out }) s → Keeps s → left (said p out) before after
+  said_leaves p out s o k =
       let w = watch_is (rows_in after) ys es in
-      let some : 1 ≤ length (map row_is (rows_in after)) = (question_one form w k.0).some_row in
-      laws.keeps pushed out before after (omega (arith, some, length-map (rows_in after) row_is)) (rows_sound w k.1)
+      let h : Passes w = subst Keeps (sym o) k in
+      let some : 1 ≤ length (map row_is (rows_in after)) = (question_one form w h.0).some_row in
+      laws.keeps p out before after (omega (arith, some, length-map (rows_in after) row_is)) (rows_sound w h.1)
 
-  leaves : (s : Step (Watch Part) Out) → outcome r (rows_in after) ys es ≡ s → Keeps s → Untouched r before after → left (answer_is r) before after
-  unfolding Untouched
-  leaves s o k u = by_answer (answer_is r) u (subst Keeps (sym o) k)
+  leaves : (r : Answer) → ((x : Refusal) → r ≡ Err x → after ≡ before) → (s : Step (Watch Part) Out) → outcome r (rows_in after) ys es ≡ s → Keeps s → left (answer_is r) before after
+  leaves (Err x) u s o k = subst (left (refused (number_of x)) before) (sym (u x refl)) (laws.leaves (number_of x) before)
+  leaves (Ok (Wd.Generation g p)) u s o k = said_leaves p (generation_is g) s o k
+  leaves (Ok (Wd.Judged j)) u s o k = said_leaves None (judgment_is j) s o k
+  leaves (Ok (Wd.Says v)) u s o k = said_leaves None (says v) s o k
+  leaves (Ok (Wd.Freed key)) u s o k = said_leaves None (freed key) s o k
+  leaves (Ok Wd.Done) u s o k = said_leaves None done s o k
 
-  -- a call's equation, and what it leaves
-  pub told_call : (w : Watch Part) (k : M.Key) (a : Act) → outcome r (rows_in after) ys es ≡ call_on w k a → Untouched r before after → (outcome r (rows_in after) ys es ≡ call_on w k a) × left (answer_is r) before after
-  told_call w k a o u = (o, leaves (call_on w k a) o (call_keeps w k a) u)
+  module _ (r : Answer) (u : (x : Refusal) → r ≡ Err x → after ≡ before) (w : Watch Part) where
+    -- a call's equation, and what it leaves
+    pub told_call : (k : M.Key) (a : Act) → outcome r (rows_in after) ys es ≡ call_on w k a → (outcome r (rows_in after) ys es ≡ call_on w k a) × left (answer_is r) before after
+    told_call k a o = (o, leaves r u (call_on w k a) o (call_keeps w k a))
 
-  pub told_drop : (w : Watch Part) → outcome r (rows_in after) ys es ≡ drop_oldest w → Untouched r before after → (outcome r (rows_in after) ys es ≡ drop_oldest w) × left (answer_is r) before after
-  told_drop w o u = (o, leaves (drop_oldest w) o (drop_keeps w) u)
+    pub told_drop : outcome r (rows_in after) ys es ≡ drop_oldest w → (outcome r (rows_in after) ys es ≡ drop_oldest w) × left (answer_is r) before after
+    told_drop o = (o, leaves r u (drop_oldest w) o (drop_keeps w))
 
-  pub told_fresh : (w : Watch Part) → outcome r (rows_in after) ys es ≡ fresh_call w → Untouched r before after → (outcome r (rows_in after) ys es ≡ fresh_call w) × left (answer_is r) before after
-  told_fresh w o u = (o, leaves (fresh_call w) o (fresh_keeps w) u)
+    pub told_fresh : outcome r (rows_in after) ys es ≡ fresh_call w → (outcome r (rows_in after) ys es ≡ fresh_call w) × left (answer_is r) before after
+    told_fresh o = (o, leaves r u (fresh_call w) o (fresh_keeps w))

@@ -1,19 +1,15 @@
--- What a step of a call leaves in what is lent, where it refuses (`unchanged`) and where it accepts (`accepted`), and what the call leaves whose answer is the
--- step's (`answers_as`).
-use mathlib.Core.Path.{◌≡◌, refl, sym, ap, ◌∙◌, subst}
-use mathlib.Core.Bool.{false}
-use mathlib.Core.List.{List}
-use Rattle.table.proofs.Tests.{clash}
-use Rattle.moves.specs.declared.Answer.{Answer}
-use Rattle.lent.specs.Refusal.{is_refusal, Untouched}
+-- What a call answers by `?`, and what it leaves in what is lent where it accepts: a word is no refusal.
+use mathlib.Core.Path.{◌≡◌, sym, ap, ◌∙◌}
+use Rattle.std.specs.Prelude.{Ok, Err, IsErrAnd}
+use Rattle.table.specs.declared.Refusal.{Refusal}
+use Rattle.moves.specs.declared.Word.{Word}
+use Rattle.moves.specs.Answers.{Answer}
+use Rattle.rows.proofs.Passed.{no_ok}
 
-pub unchanged : {X : Type 0} (a : Answer) (xs : List X) → Untouched a xs xs
-unfolding Untouched
-unchanged a xs h = refl
+-- `?` hands a refusal on
+pub handed_on : (r : Answer) (x : Refusal) → IsErrAnd r (λ e. e ≡ x) → r ≡ Err x
+handed_on (Ok w) x h = absurd h
+handed_on (Err e) x h = ap Err h
 
-pub accepted : {X : Type 0} (r a : Answer) (xs ys : List X) → r ≡ a → is_refusal a ≡ false → Untouched r xs ys
-unfolding Untouched
-accepted r a xs ys e f h = clash h (ap is_refusal e ∙ f)
-
-pub answers_as : {X : Type 0} (r a : Answer) (xs ys : List X) → r ≡ a → Untouched a xs ys → Untouched r xs ys
-answers_as r a xs ys e u = subst (λ (x : Answer). Untouched x xs ys) (sym e) u
+pub accepts : {X : Type 0} (r : Answer) (v : Word) → r ≡ Ok v → (x : Refusal) → r ≡ Err x → X
+accepts r v p x q = no_ok (sym p ∙ q)

@@ -16,8 +16,9 @@ use Rattle.rows.specs.Read.{ends_of, ends_is, watch_is}
 use Rattle.rows.specs.Links.{fresh_from}
 use Rattle.rows.specs.Search.{sizes_of}
 use Rattle.moves.specs.declared.Word.TheVariants as Wd
-use Rattle.moves.specs.declared.Answer.{Answer}
-use Rattle.moves.specs.Answers.{outcome, saying}
+use Rattle.moves.specs.Answers.{Answer, outcome}
+use Rattle.std.specs.Prelude.{Ok, Err}
+use Rattle.table.specs.declared.Refusal.TheVariants as R
 use Rattle.moves.proofs.Making.{fresh_no, fresh_yes}
 use Rattle.scans.specs.declared.Ends.{Ends}
 use Rattle.scans.specs.Ends.{fresh_ends}
@@ -33,10 +34,10 @@ module _ (xs : List Row) (n : ℕ) (ys ws : List ℕ) (t : Bool) (long : n ≡ l
       let cells = eqb (length ys) (width * length xs) in
       leb-true (length xs) most (and_1 most_rows cells (and_2 (leb 1 (length xs)) (most_rows && cells) (sym sizes ∙ h)))
 
-  pub fresh_not : (r : Answer) → t ≡ false → r ≡ saying (Wd.Refused 1) → outcome r xs ys ws ≡ fresh_call (watch_is xs ys ws)
+  pub fresh_not : (r : Answer) → t ≡ false → r ≡ Err R.Sizes → outcome r xs ys ws ≡ fresh_call (watch_is xs ys ws)
   fresh_not r h q = fresh_no xs ys ws t r sizes h q
 
   pub fresh_made :
       (zs : List Row) (cs vs : List ℕ) (d : Ends) (r : Answer) → t ≡ true → zs ≡ fresh_from n 0 (length xs) → cs ≡ replicate (length ys) empty_word → d ≡ fresh_ends
-      → ends_is vs ≡ ends_of d → r ≡ saying Wd.Done → outcome r zs cs vs ≡ fresh_call (watch_is xs ys ws)
+      → ends_is vs ≡ ends_of d → r ≡ Ok Wd.Done → outcome r zs cs vs ≡ fresh_call (watch_is xs ys ws)
   fresh_made zs cs vs d r h z c q k v = fresh_yes xs ys ws t zs cs vs d r sizes h (z ∙ ap (λ (j : ℕ). fresh_from j 0 (length xs)) long) c q k v

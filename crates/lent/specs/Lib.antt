@@ -1,2 +1,2 @@
 -- The definitions that contracts cite.
-pub mod Refusal
+pub mod Freed

@@ -1,118 +1,75 @@
 // The siting watch: seven calls over rows, cells and ends that the caller lends, once for whatever rows are lent as (`chains::Lent`): plain numbers, as C and Rust
 // can lend them, or records. Nothing is asked of what is lent: what is no watch in order is refused, and a refusal changes nothing. A call looks at each row once
-// (crate `chains`), decides on values (crates `bodies` and `moves`), and then stores.
+// (crate `chains`), asks its questions in turn, each of which ends it by `?`, and then stores. Rows, cells, ends and a call's words come one by one,
+// since C hands them over so (a). What a call leaves of the rows (`left`) relates two states of them, so that each call says it: no value holds it (d).
+// An end that is none is the largest u32, as in what is lent (a).
 #![tactic(auto)]
 
-ghost use Rattle.std.specs.Prelude.{◌≡◌, true, false, get_or};
-ghost use Rattle.heard.specs.Heard.{site_fits};
+ghost use Rattle.std.specs.Prelude.{◌≡◌, ◌+◌, ◌*◌, ◌≤◌, get_or, length};
+ghost use Rattle.std.proofs.lemmas.List.Edits.{sets};
+ghost use Rattle.heard.specs.Heard.{width, empty_cells};
 ghost use Rattle.receiver.specs.Calls as calls;
-ghost use Rattle.rows.specs.Read.{watch_is};
-ghost use Rattle.rows.specs.Links.{blank};
+ghost use Rattle.rows.specs.Read.{ends_of, ends_is, watch_is};
+ghost use Rattle.rows.specs.Links.{released_rows, released_ends};
 ghost use Rattle.moves.specs.Answers.{answer_is, outcome};
-ghost use Rattle.moves.specs.Moves.{ClaimedRow, HeardRow, judged_as, judged_rows, checked_as, remove_move, removed_rows};
-ghost use Rattle.lent.specs.Refusal.{Untouched};
-ghost use Rattle.scans.specs.Scan.{is_no, is_unfit, at_of};
-ghost use Rattle.bodies.specs.Bodies.{due_look};
+ghost use Rattle.lent.specs.Freed.{freed_at};
 
 use chains::Lent;
-use heard::{Heard, Position};
-use moves::{Answer, Count, Move};
-use near_field::Judgment;
-use scans::{Ends, Key, Look};
+use heard::Position;
+use moves::{Answer, Word};
+use receiver::Part;
+use scans::{Ends, Key};
 use sites::Site;
+use table::Refusal;
 
 // ---- check
-
-// What is said of the row that was found.
-fn check_row<W: Lent>(rows: &[W], l: Look) -> Answer
-    ensures { result ≡ checked_as l (get_or (W.rows_in rows.now) (at_of l) blank).part.verdict }
-{
-    if scans::is_no(l) {
-        return moves::no_to(l);
-    }
-    let held = chains::found(rows, l);
-    moves::check_answer(held)
-}
 
 // What is held of the key's site. This marks nothing.
 pub fn check<W: Lent>(rows: &mut [W], cells: &mut [u32], ends: &mut [u32; 3], key: Key) -> Answer
     ensures { (outcome result (W.rows_in rows.new) cells.new ends.new ≡ calls.call_on (watch_is (W.rows_in rows.old) cells.old ends.old) key.bytes calls.check) × W.left (answer_is result) rows.old rows.new }
 {
-    let e = moves::ends_of(ends);
-    let l = chains::look_up(rows, cells.len(), e, key);
-    check_row(rows, l)
+    let e = rows::ends_of(ends);
+    let i = chains::look_up(rows, cells.len(), e, key)?;
+    moves::check_answer(W::get(rows, i).part.verdict)
 }
 
 // ---- take-out and drop-oldest
 
-// The row that was found is freed, and its key answered.
-fn remove<W: Lent>(rows: &mut [W], e: Ends, l: Look) -> Move
-    ensures { (result ≡ remove_move (W.rows_in rows.old) e l) × (W.rows_in rows.new ≡ removed_rows (W.rows_in rows.old) e l) × Untouched result.answer rows.old rows.new }
+// Row i is freed, and its key answered.
+fn free<W: Lent>(rows: &mut [W], cells: &mut [u32], ends: &mut [u32; 3], e: Ends, i: u32) -> Answer
+    requires { width * i + width ≤ length cells.old }
+    ensures { (result ≡ freed_at (W.rows_in rows.old) i) × (W.rows_in rows.new ≡ released_rows (W.rows_in rows.old) e i) × (cells.new ≡ sets cells.old (width * i) empty_cells) × (ends_is ends.new ≡ ends_of (released_ends (W.rows_in rows.old) e i)) }
 {
-    if scans::is_no(l) {
-        return moves::unfit_move(e, l);
-    }
-    let i = scans::at_of(l);
-    let row = W::get(rows, i);
+    let key = W::get(rows, i).key;
     let d = chains::release(rows, e, i);
-    moves::moving(d, l, moves::freed_row(row))
+    bodies::empty(cells, i);
+    rows::keep(ends, d);
+    Ok(Word::Freed(key))
 }
 
 // The key's row is freed.
 pub fn take_out<W: Lent>(rows: &mut [W], cells: &mut [u32], ends: &mut [u32; 3], key: Key) -> Answer
     ensures { (outcome result (W.rows_in rows.new) cells.new ends.new ≡ calls.call_on (watch_is (W.rows_in rows.old) cells.old ends.old) key.bytes calls.take_out) × W.left (answer_is result) rows.old rows.new }
 {
-    let e = moves::ends_of(ends);
-    let l = chains::look_up(rows, cells.len(), e, key);
-    let m = remove(rows, e, l);
-    moves::empty_move(cells, m);
-    moves::keep_move(ends, m);
-    moves::answer_of(m)
+    let e = rows::ends_of(ends);
+    let i = chains::look_up(rows, cells.len(), e, key)?;
+    free(rows, cells, ends, e, i)
 }
 
 // The least recently used row is freed.
 pub fn drop_oldest<W: Lent>(rows: &mut [W], cells: &mut [u32], ends: &mut [u32; 3]) -> Answer
     ensures { (outcome result (W.rows_in rows.new) cells.new ends.new ≡ calls.drop_oldest (watch_is (W.rows_in rows.old) cells.old ends.old)) × W.left (answer_is result) rows.old rows.new }
 {
-    let e = moves::ends_of(ends);
-    let k = moves::zero_key();
-    let l = chains::look_up(rows, cells.len(), e, k);
-    let o = moves::oldest_of(l, e);
-    let m = remove(rows, e, o);
-    moves::empty_move(cells, m);
-    moves::keep_move(ends, m);
-    moves::answer_of(m)
+    let e = rows::ends_of(ends);
+    let look = chains::look_up(rows, cells.len(), e, scans::zero_key());
+    scans::claimable(look)?;
+    if scans::is_none(e.head) {
+        return Err(Refusal::NotHeld);
+    }
+    free(rows, cells, ends, e, e.head)
 }
 
 // ---- judging
-
-// The row that was found, unless it is too soon to judge it.
-fn due_at<W: Lent>(rows: &[W], l: Look, now_ms: u64) -> Look
-    ensures { result ≡ due_look l (get_or (W.rows_in rows.now) (at_of l) blank).part.judged_ms now_ms }
-{
-    bodies::due(l, chains::found(rows, l), now_ms)
-}
-
-// What was heard by the row that was found.
-fn heard_at<W: Lent>(rows: &[W], l: Look) -> Heard
-    ensures { result ≡ (get_or (W.rows_in rows.now) (at_of l) blank).part.heard }
-{
-    bodies::heard_in(chains::found(rows, l))
-}
-
-// The judgment and its clock are kept by the row that was found.
-fn judge_row<W: Lent>(rows: &mut [W], l: Look, now_ms: u64, j: Judgment) -> Answer
-    ensures { (result ≡ judged_as l j) × (W.rows_in rows.new ≡ judged_rows (W.rows_in rows.old) l now_ms j) × Untouched result rows.old rows.new }
-{
-    if scans::is_no(l) {
-        return moves::no_to(l);
-    }
-    let i = scans::at_of(l);
-    let row = W::get(rows, i);
-    let judged = bodies::judged_part(row, now_ms, j);
-    W::put(rows, i, judged);
-    moves::judged(j)
-}
 
 // The key's claim is judged by what was heard. This marks nothing.
 pub fn judging<W: Lent>(
@@ -125,34 +82,18 @@ pub fn judging<W: Lent>(
 ) -> Answer
     ensures { (outcome result (W.rows_in rows.new) cells.new ends.new ≡ calls.call_on (watch_is (W.rows_in rows.old) cells.old ends.old) key.bytes (calls.judging now_ms aircraft)) × W.left (answer_is result) rows.old rows.new }
 {
-    let e = moves::ends_of(ends);
-    let l = chains::look_up(rows, cells.len(), e, key);
-    let d = due_at(rows, l, now_ms);
-    let h = heard_at(rows, d);
-    let j = bodies::judge_at(cells, d, h, now_ms, aircraft);
-    judge_row(rows, d, now_ms, j)
+    let e = rows::ends_of(ends);
+    let i = chains::look_up(rows, cells.len(), e, key)?;
+    let part = W::get(rows, i).part;
+    if verdicts::too_soon(part.judged_ms, now_ms) {
+        return Err(Refusal::TooSoon);
+    }
+    let j = bodies::judge_cells(cells, i, part.heard, now_ms, aircraft);
+    W::set_part(rows, i, bodies::judged_part(part, now_ms, j));
+    Ok(Word::Judged(j))
 }
 
 // ---- position
-
-// The position, on the rows alone.
-fn hear_row<W: Lent>(rows: &mut [W], e: Ends, l: Look, p: Position) -> Count
-    requires { is_no l ≡ false → site_fits (get_or (W.rows_in rows.old) (at_of l) blank).part.heard.site ≡ true }
-    ensures { HeardRow (W.rows_in rows.old) e l p result (W.rows_in rows.new) × Untouched result.answer rows.old rows.new }
-{
-    if scans::is_no(l) {
-        return moves::uncounted(e, l);
-    }
-    let row = chains::found(rows, l);
-    let i = scans::at_of(l);
-    let h = bodies::hear(row, p);
-    if bodies::is_unheard(h) {
-        return moves::unheard(e, i, h);
-    }
-    let part = bodies::hear_part(row, h);
-    let d = chains::mark(rows, e, i, part);
-    moves::counted(d, i, h)
-}
 
 // The key's receiver has heard an aircraft.
 pub fn position<W: Lent>(
@@ -164,35 +105,27 @@ pub fn position<W: Lent>(
 ) -> Answer
     ensures { (outcome result (W.rows_in rows.new) cells.new ends.new ≡ calls.call_on (watch_is (W.rows_in rows.old) cells.old ends.old) key.bytes (calls.position p)) × W.left (answer_is result) rows.old rows.new }
 {
-    let e = moves::ends_of(ends);
-    let l = chains::look_up(rows, cells.len(), e, key);
-    let c = hear_row(rows, e, l, p);
-    moves::count_at(cells, c);
-    moves::keep_count(ends, c);
-    moves::answered(c)
+    let e = rows::ends_of(ends);
+    let i = chains::look_up(rows, cells.len(), e, key)?;
+    let part = W::get(rows, i).part;
+    let c = heard::hear(part.heard, p)?;
+    let d = chains::mark(
+        rows,
+        e,
+        i,
+        Part {
+            heard: c.heard,
+            ..part
+        },
+    );
+    bodies::count_in(cells, i, c);
+    rows::keep(ends, d);
+    Ok(Word::Done)
 }
 
 // ---- claim
 
-// The claim, on the rows alone.
-fn claim_row<W: Lent>(rows: &mut [W], e: Ends, l: Look, key: Key, site: Option<Site>) -> Move
-    requires { is_unfit l ≡ false → site_fits (get_or (W.rows_in rows.old) (at_of l) blank).part.heard.site ≡ true }
-    ensures { ClaimedRow (W.rows_in rows.old) e l key site result (W.rows_in rows.new) × Untouched result.answer rows.old rows.new }
-{
-    if scans::unfit(l) {
-        return moves::unfit_move(e, l);
-    }
-    let row = chains::found(rows, l);
-    let c = bodies::claiming(row, site);
-    if bodies::is_refused(c) {
-        return moves::outside_move(e);
-    }
-    let part = bodies::claim_part(row, c);
-    let s = chains::insert_active(rows, e, l, key, part);
-    moves::seat_move(s, c)
-}
-
-// The key's site is claimed, or none.
+// The key's site is claimed, or none. A row made for the key, or moved, gets empty cells.
 pub fn claim<W: Lent>(
     rows: &mut [W],
     cells: &mut [u32],
@@ -202,12 +135,18 @@ pub fn claim<W: Lent>(
 ) -> Answer
     ensures { (outcome result (W.rows_in rows.new) cells.new ends.new ≡ calls.call_on (watch_is (W.rows_in rows.old) cells.old ends.old) key.bytes (calls.claim site)) × W.left (answer_is result) rows.old rows.new }
 {
-    let e = moves::ends_of(ends);
-    let l = chains::look_up(rows, cells.len(), e, key);
-    let m = claim_row(rows, e, l, key, site);
-    moves::empty_move(cells, m);
-    moves::keep_move(ends, m);
-    moves::answer_of(m)
+    let e = rows::ends_of(ends);
+    let look = chains::look_up(rows, cells.len(), e, key);
+    let at = scans::claimable(look)?;
+    let part = chains::part_at(rows, at);
+    let c = heard::set_site(part.heard, site)?;
+    let seat = chains::insert_active(rows, e, at, key, bodies::claim_part(part, c));
+    bodies::empty_if(cells, seat.at, seat.made | c.moved);
+    rows::keep(ends, seat.ends);
+    Ok(Word::Generation {
+        generation: c.heard.generation,
+        pushed: seat.pushed,
+    })
 }
 
 // ---- fresh
@@ -218,10 +157,10 @@ pub fn fresh<W: Lent>(rows: &mut [W], cells: &mut [u32], ends: &mut [u32; 3]) ->
 {
     let n = W::count(rows);
     if !rows::sizes_fit(n, cells.len()) {
-        return moves::no_first();
+        return Err(Refusal::Sizes);
     }
     chains::fresh_rows(rows, n);
     bodies::fresh_cells(cells);
-    moves::keep(ends, scans::fresh_ends());
-    moves::done()
+    rows::keep(ends, scans::fresh_ends());
+    Ok(Word::Done)
 }

@@ -10,7 +10,7 @@ mod streams;
 use std::io::{Read, Result};
 pub use streams::{Sink, Source, Stream};
 
-// What was read and not yet given lies from `at` to `have` in the buffer.
+// What was read and not yet given lies from `at` to `have` in the buffer. Places and no slices, here and below: there is one buffer, no heap, and it is refilled (a).
 #[derive(Clone, Copy)]
 pub struct Input {
     pub at: usize,
@@ -20,6 +20,7 @@ pub struct Input {
     pub more: bool,
 }
 
+// Three cases, of which two hold nothing: an Option of an Option would be no plainer (d).
 #[derive(Clone, Copy)]
 pub enum Line {
     // It lies from `start` to `end` in the buffer.
@@ -89,9 +90,9 @@ fn kept(s: Input) -> Input
     if s.have - s.at > 1024 {
         Input {
             at: s.have,
-            have: s.have,
             long: true,
             more: true,
+            ..s
         }
     } else {
         s

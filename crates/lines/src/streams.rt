@@ -1,4 +1,5 @@
 // A reader or a writer, with the first error that it gave. After an error nothing more is read or written, and whoever runs the program asks for it at the end.
+// That nothing changes then relates two states of a stream, so each function over one says it: no field holds it (d).
 ghost use Rattle.std.specs.Prelude.{◌≡◌, ◌<◌, ◌≤◌, true, false, length, take};
 ghost use Rattle.std.specs.Io.KnownBytes.{Appends, Consumes, IsAtEnd};
 ghost use Rattle.lines.specs.Streams.{inner_of, left_in, held_by, source_failed, sink_failed, ended};

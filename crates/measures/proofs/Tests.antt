@@ -19,10 +19,6 @@ at_most v d = go (ltb v d) (eqb v d) (leb v d) (ltb→lt v d) (λ n. nltb→le v
         same v d h k = omega arith
     go false false false l1 l2 e1 e2 b1 b2 = refl
 
-yes_and : (a b : Bool) → T a → ((a || b) && true) ≡ true
-yes_and true b t = refl
-yes_and false b t = absurd t
-
 or_yes : (a b : Bool) → T a → (a || b) ≡ true
 or_yes true b t = refl
 or_yes false b t = absurd t

@@ -1,12 +1,10 @@
 -- Degrees in ticks: 2 ^ 25 times their size is exact, half of it rounded is the ticks, and it is small. Assumes nothing.
-use Rattle.std.proofs.Common.{◌≡◌, ℕ, zero, suc, ◌+◌, ◌*◌, ◌/◌, ◌^◌, ◌<◌, ◌≤◌, Bool, true, false, cond, T, ℤ, pos, ◌-ℤ◌, neg_ℤ, nat_abs, sym, refl, ap, ◌∙◌, le_trans, le_of_eq, le_of_suc-le-suc, mul-le-mul_right, zero-lt-suc, suc-mul, div-lt_iff_lt-mul, mul-pos, zero-mul, mul_right_comm, mul_left_comm, arith, le→leb, leb→le, w64, SFits, to_z}
+use Rattle.std.proofs.Common.{◌≡◌, ℕ, zero, suc, ◌+◌, ◌*◌, ◌/◌, ◌^◌, ◌<◌, ◌≤◌, Bool, true, false, cond, T, ℤ, pos, neg_ℤ, nat_abs, sym, refl, ap, ◌∙◌, le_trans, le_of_eq, le_of_suc-le-suc, mul-le-mul_right, zero-lt-suc, suc-mul, div-lt_iff_lt-mul, mul-pos, zero-mul, mul_right_comm, mul_left_comm, arith, le→leb, leb→le}
 use native.Mathlib.Nat.{div-eq_of_lt}
-use lib.IntN.{+ℤ_idl}
 use lib.Ieee.{Float, nan, inf, fin, binary64, up, down, mul, neg, lt, fits, to_unsigned}
 use lib.Ieee.Fits.{down_pos, neg-fits}
 use lib.Ieee.Exact.{HasValue}
 use lib.Ieee.Positive.{num, den, den_pos}
-use mir.Facts.{to_z_pos}
 use Rattle.measures.specs.Degrees.{nearest_up, within, tick_of}
 use Rattle.root.specs.Root.{plus_zero}
 use Rattle.root.proofs.Signs.{true_not_false, minus_below, plus_not_below}
@@ -87,16 +85,6 @@ module _ (x w : Float) (b : Bool) (t : Ticks x w b) where
     where
       less : (a d : ℕ) → 0 < d → a ≤ 180 * d → 2 * (a * 2 ^ 24) + d < 2 ^ 40 * (2 * d)
       less a d D h = omega arith
-
-pub minus_is : (n : ℕ) → n < 2 ^ 40 → pos 0 -ℤ to_z w64 n ≡ neg_ℤ (pos n)
-minus_is n h = ap (λ (z : ℤ). pos 0 -ℤ z) (to_z_pos w64 (wide n h)) ∙ +ℤ_idl (neg_ℤ (pos n))
-  where
-    wide : (n : ℕ) → n < 2 ^ 40 → n < 2 ^ 63
-    wide n h = omega arith
-
-pub minus_fits : (n : ℕ) → n < 2 ^ 40 → SFits w64 (neg_ℤ (pos n))
-minus_fits zero h = record { sfits = omega arith }
-minus_fits (suc n) h = record { sfits = omega arith }
 
 -- ---- what callers ask: a wider range, and how large the ticks are
 

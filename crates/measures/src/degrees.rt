@@ -1,30 +1,23 @@
 // Degrees: whether they are in range, and how many ticks they are.
-ghost use Rattle.std.specs.Prelude.{◌≡◌, ◌^◌, ◌<◌, T, pos, neg_ℤ, if◌then◌else◌, from_bits};
+ghost use Rattle.std.specs.Prelude.{◌≡◌, ℕ, ◌*◌, ◌^◌, ◌<◌, T, false, pos, neg_ℤ, if◌then◌else◌, from_bits};
 ghost use Rattle.std.specs.Float.Ieee.{neg};
-ghost use Rattle.std.specs.Float.{binary64};
+ghost use Rattle.std.specs.Float.{binary64, fin};
 ghost use Rattle.measures.specs.Degrees.{within, in_degrees, tick_of};
 
 use super::steps;
 
-// Whether x is finite and from -90 to 90.
-pub fn within_90(x: f64) -> bool
-    ensures { result ≡ within 90 x }
+// Whether x is finite and from -most to most, for a most of n × 2^k.
+pub fn within(x: f64, most: f64) -> bool
+    ensures { (n k : ℕ) → most ≡ fin false n (pos k) → 0 < n → result ≡ within (n * 2 ^ k) x }
 {
-    x >= -90.0 && x <= 90.0
+    x >= -most && x <= most
 }
 
-// Whether x is finite and from -180 to 180.
-pub fn within_180(x: f64) -> bool
-    ensures { result ≡ within 180 x }
-{
-    x >= -180.0 && x <= 180.0
-}
-
-// Question 4: are both degrees finite, lat -90 to 90, lon -180 to 180?
+// Question 4: are both degrees finite, lat -90 to 90, lon -180 to 180? C hands the two over by themselves, and so they come down to here (a).
 pub fn in_degrees(lat: f64, lon: f64) -> bool
     ensures { result ≡ in_degrees lat lon }
 {
-    within_90(lat) && within_180(lon)
+    within(lat, 90.0) && within(lon, 180.0)
 }
 
 // The same of the bits of two floats, with no float made: of the patterns of one sign the order is that of the numbers, and a NaN's stand behind them all.
@@ -34,13 +27,14 @@ pub fn bits_in_degrees(lat: u64, lon: u64) -> bool
     lat % (1 << 63) <= 0x4056_8000_0000_0000 && lon % (1 << 63) <= 0x4066_8000_0000_0000
 }
 
-// x with its sign turned where it is negative.
+// x with its sign turned where it is negative. `f64::abs` tests for a zero too: three instructions more for each of four degrees (b).
 fn size(x: f64, minus: bool) -> f64
     ensures { result ≡ (if minus then neg x else x) }
 {
     if minus { -x } else { x }
 }
 
+// n with a minus sign where `minus` says so. No method of a number puts a sign on (d).
 fn signed(n: u64, minus: bool) -> i64
     requires { n < 2 ^ 40 }
     ensures { result ≡ (if minus then neg_ℤ (pos n) else pos n) }

@@ -34,6 +34,5 @@ pub fn off_km(km: f64) -> u32
     requires { T (distance km) }
     ensures { result ≡ off_of km }
 {
-    let n = half_up(km / 5.0);
-    if n < 1 { 5 } else { (n * 5) as u32 }
+    (half_up(km / 5.0).max(1) * 5) as u32
 }

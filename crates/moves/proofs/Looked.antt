@@ -1,24 +1,26 @@
 -- What a look tells of the definitions' step: a call goes by the first question that is answered no, or by the row that was found. Facts on lists
 -- alone, of a watch whose ends were read (`ends_are`) and that was looked at (`seen`).
---     stepped_is, at_row   a call is decided by the look; by the row's part and cells where one was found
---     no_step, unfit_step  the refusals 1 to 3
---     held_site, fit_site, look_room, seat_room   what the next functions ask: a site within degrees, a row's cells among all
-use Rattle.std.specs.Prelude.{Option, None, Some}
-use mathlib.Core.Path.{◌≡◌, refl, sym, ◌∙◌, ap, ap₂, subst}
+--     stepped_is, at_row          a call is decided by the look; by the row's part and cells where one was found
+--     no_step, claim_step         the refusals 1 to 3, and those of a claim, which is not asked 3
+--     held_site, claim_site, held_room, head_room, seat_room   what the calls' functions ask: a site within degrees, a row's cells among all
+use Rattle.std.specs.Prelude.{Option, None, Some, Result, Ok, Err}
+use mathlib.Core.Path.{◌≡◌, refl, sym, ◌∙◌, ap, subst}
 use Prim.Native.Nat.{ℕ, zero, suc, ◌<◌, ◌≤◌, ◌+◌, ◌*◌}
 use native.Mathlib.Omega.{arith}
 use native.Mathlib.Nat.{mul-le-mul_left}
 use mathlib.Core.Bool.{true, false, cond}
 use mathlib.Core.List.{List, [], ◌∷◌, map}
 use lib.Dec.{eqb}
-use lib.ListN.{length, get_or, take, drop, get_or-eq_default}
+use lib.ListN.{length, get_or, take, drop}
 use Rattle.table.specs.Machine as M
 use Rattle.table.specs.Machine.{same, Step, Outcome}
+use Rattle.table.specs.Refusals.{number_of}
+use Rattle.table.specs.declared.Refusal.{Refusal}
 use Rattle.table.specs.Rows as T
 use Rattle.table.specs.Rows.{NONE, Watch, chain_of, row_at}
 use Rattle.table.specs.Questions.{question1, question2, find_row}
-use Rattle.table.specs.Watch.{Body, body_at, fresh_body, refusal, on_row, on_none, located}
-use Rattle.table.proofs.Tests.{by_bool, clash, and_1, eqb_true, eqb_false}
+use Rattle.table.specs.Watch.{Body, body_at, fresh_body, refusal, on_row, on_new, on_none, located}
+use Rattle.table.proofs.Tests.{by_bool, and_1, eqb_true, eqb_false}
 use Rattle.table.proofs.Keys.{same_eq}
 use Rattle.table.proofs.Numbers.{below_none}
 use Rattle.table.proofs.Linked.{Chained}
@@ -27,32 +29,28 @@ use Rattle.table.proofs.Safe.{head_row, free_row_lem, found_row}
 use Rattle.receiver.specs.declared.Part.{Part}
 use Rattle.heard.specs.Heard.{width, site_fits}
 use Rattle.verdicts.specs.Verdict.{verdict_fits}
-use Rattle.receiver.specs.Calls.{Act, Out, kind, row_act, siting, unmade_part, call_on}
+use Rattle.sites.specs.declared.Site.{Site}
+use Rattle.receiver.specs.Calls.{Act, claim, Out, kind, row_act, siting, unmade_part, call_on}
 use Rattle.rows.specs.declared.Row.{Row}
-use Rattle.rows.specs.declared.Seat.{Seat}
-use Rattle.rows.specs.Read.{form, fits, row_is, ends_of, ends_is, watch_of, watch_is, found_is, looked_in, Looked}
-use Rattle.rows.specs.Links.{blank, room_ends, seat_of}
+use Rattle.rows.specs.Read.{form, fits, row_is, ends_of, ends_is, watch_of, watch_is, looked_in, Looked}
+use Rattle.rows.specs.Links.{blank, part_at, room_ends, seat_of}
 use Rattle.rows.proofs.Chains.{rows_long_lem, row_is_lem}
-use Rattle.moves.specs.declared.Word.TheVariants as Wd
-use Rattle.moves.specs.declared.Answer.{Answer}
-use Rattle.moves.specs.Answers.{answer_is, outcome, saying}
+use Rattle.rows.proofs.Passed.{Passed, passed, no_ok, one_ok, one_err}
+use Rattle.moves.specs.Answers.{outcome}
 use Rattle.scans.specs.declared.Key.{Key}
 use Rattle.scans.specs.declared.Ends.{Ends}
-use Rattle.scans.specs.declared.Look.{Look}
-use Rattle.scans.specs.declared.Look.TheVariants as L
-use Rattle.scans.specs.Scan.{is_no, is_unfit, at_of, number_of}
-use Rattle.bodies.specs.Bodies.{RoomAt}
+use Rattle.scans.specs.Scan.{row_or_no, claimable}
 
 -- row i's part and cells
 abbrev pub body_of : List Row → List ℕ → ℕ → Body Part
 body_of xs ys i = record { part = (get_or xs i blank).part; cells = take width (drop (width * i) ys) }
 
 -- THE LOOK DECIDES
-abbrev pub by_look : Watch Part → M.Key → Act → Look → Step (Watch Part) Out
-by_look w k a (L.No n) = cond (eqb n 3) (on_none kind siting w k (kind a) (row_act k (fresh_body form) a)) (refusal w n)
-by_look w k a (L.At i) = on_row kind siting w i k (kind a) (row_act k (body_at form w i) a)
+abbrev pub by_look : Watch Part → M.Key → Act → Result ℕ Refusal → Step (Watch Part) Out
+by_look w k a (Err r) = cond (eqb (number_of r) 3) (on_none kind siting w k (kind a) (row_act k (fresh_body form) a)) (refusal w (number_of r))
+by_look w k a (Ok i) = on_row kind siting w i k (kind a) (row_act k (body_at form w i) a)
 
-located_by : (w : Watch Part) (k : M.Key) (a : Act) (o : Option ℕ) → located kind siting w k a o ≡ by_look w k a (found_is o)
+located_by : (w : Watch Part) (k : M.Key) (a : Act) (o : Option ℕ) → located kind siting w k a o ≡ by_look w k a (row_or_no o)
 located_by w k a None = refl
 located_by w k a (Some i) = refl
 
@@ -64,40 +62,23 @@ step_by w k a =
     (λ q. rw (p, q)))
     (λ p. rw p)
 
-no_look : {X : Type 0} {i n : ℕ} → L.At i ≡ L.No n → X
-no_look e = let z : ◌≡◌ {A = ℕ} 0 1 = cc in absurd (omega arith)
-
-one_look : {i j : ℕ} → L.At i ≡ L.At j → i ≡ j
-one_look e = cc
-
 -- a row was found
 record HeldAt (w : Watch Part) (k : M.Key) (i : ℕ) : Type 0 where
   one : question1 form w ≡ true
   two : question2 form w ≡ true
   search : find_row unmade_part w.rows (length w.rows) k w.ends.head ≡ Some i
 
-held_at : (w : Watch Part) (k : M.Key) (i : ℕ) → L.At i ≡ looked_in w k → HeldAt w k i
+held_at : (w : Watch Part) (k : M.Key) (i : ℕ) → Ok i ≡ looked_in w k → HeldAt w k i
 held_at w k i e =
     by_bool (question1 form w)
     (λ p. by_bool (question2 form w)
     (λ q. record { one = p; two = q; search = go (find_row unmade_part w.rows (length w.rows) k w.ends.head) (rw (p, q) at e) })
-    (λ q. no_look (rw (p, q) at e)))
-    (λ p. no_look (rw p at e))
+    (λ q. no_ok (rw (p, q) at e)))
+    (λ p. no_ok (rw p at e))
   where
-    go : (o : Option ℕ) → L.At i ≡ found_is o → o ≡ Some i
-    go None h = no_look h
-    go (Some j) h = ap Some (sym (one_look h))
-
--- questions 1 and 2 were passed
-pub record Passed (w : Watch Part) : Type 0 where
-  pub one : question1 form w ≡ true
-  pub two : question2 form w ≡ true
-
-passed : (w : Watch Part) (k : M.Key) → is_unfit (looked_in w k) ≡ false → Passed w
-passed w k e =
-    by_bool (question1 form w)
-    (λ p. by_bool (question2 form w) (λ q. record { one = p; two = q }) (λ q. clash refl (rw (p, q) at e)))
-    (λ p. clash refl (rw p at e))
+    go : (o : Option ℕ) → Ok i ≡ row_or_no o → o ≡ Some i
+    go None h = no_ok h
+    go (Some j) h = ap Some (sym (one_ok h))
 
 -- the row that a search finds has the key
 key_at_lem : (rows : List (T.Row Part)) (f : ℕ) (k : M.Key) (at i : ℕ) → find_row unmade_part rows f k at ≡ Some i → same k (row_at unmade_part rows i).key ≡ true
@@ -114,20 +95,19 @@ key_at_lem rows (suc f) k at i e =
     some_eq : Some at ≡ Some i → at ≡ i
     some_eq h = cc
 
-pub at_l : (z : Look) → is_no z ≡ false → z ≡ L.At (at_of z)
-at_l (L.No n) q = clash refl q
-at_l (L.At j) q = refl
-
-at_none : (z : Look) → is_no z ≡ true → at_of z ≡ NONE
-at_none (L.No n) q = refl
-at_none (L.At j) q = clash q refl
-
-pub fits_not : (z : Look) → is_no z ≡ false → is_unfit z ≡ false
-fits_not (L.No n) q = clash refl q
-fits_not (L.At j) q = refl
+-- what a claim goes on with tells the look
+claim_row : (z : Result ℕ Refusal) (i : ℕ) → claimable z ≡ Ok (Some i) → z ≡ Ok i
+claim_row (Ok j) i h = ap Ok (some_eq (one_ok h))
+  where
+    some_eq : Some j ≡ Some i → j ≡ i
+    some_eq e = cc
+claim_row (Err r) i h = by_bool (eqb (number_of r) 3) (λ p. none_some (rw p at h)) (λ p. no_ok (sym (rw p at h)))
+  where
+    none_some : {X : Type 0} → ◌≡◌ {A = Result (Option ℕ) Refusal} (Ok None) (Ok (Some i)) → X
+    none_some e = let z : ◌≡◌ {A = ℕ} 0 1 = cc in absurd (omega arith)
 
 -- e was read from the ends ws, l is the look
-module _ (xs : List Row) (ys ws : List ℕ) (e : Ends) (key : Key) (l : Look) (ends_are : ends_of e ≡ ends_is ws) (seen : Looked xs (length ys) e key l) where
+module _ (xs : List Row) (ys ws : List ℕ) (e : Ends) (key : Key) (l : Result ℕ Refusal) (ends_are : ends_of e ≡ ends_is ws) (seen : Looked xs (length ys) e key l) where
   abbrev pub w : Watch Part
   w = watch_of xs ys e
 
@@ -138,38 +118,17 @@ module _ (xs : List Row) (ys ws : List ℕ) (e : Ends) (key : Key) (l : Look) (e
   watch_same = ap {B = Watch Part} (λ z. record { rows = map row_is xs; cells = ys; ends = z }) (sym ends_are)
 
   pub stepped_is : (a : Act) → stepped a ≡ by_look w key.bytes a l
-  stepped_is a = ap (λ (v : Watch Part). call_on v key.bytes a) watch_same ∙ step_by w key.bytes a ∙ ap (λ (z : Look). by_look w key.bytes a z) (sym (seen ys refl))
-
-  pub unchanged : (ws₁ : List ℕ) → ws₁ ≡ ws → watch_is xs ys ws₁ ≡ w
-  unchanged ws₁ p = ap (λ (z : List ℕ). watch_is xs ys z) p ∙ watch_same
+  stepped_is a = ap (λ (v : Watch Part). call_on v key.bytes a) watch_same ∙ step_by w key.bytes a ∙ ap (λ (z : Result ℕ Refusal). by_look w key.bytes a z) (sym (seen ys refl))
 
   -- a refusal leaves what there was
-  pub refuses : (s : Step (Watch Part) Out) (n : ℕ) (ws₁ : List ℕ) (r : Answer) → s ≡ refusal w n → ws₁ ≡ ws → r ≡ saying (Wd.Refused n) → outcome r xs ys ws₁ ≡ s
-  refuses s n ws₁ r q u v = ap₂ {C = Step (Watch Part) Out} (λ x y. record { next = x; answer = y }) (unchanged ws₁ u) (ap answer_is v) ∙ sym q
+  pub refuses : (s : Step (Watch Part) Out) (r : Refusal) → s ≡ refusal w (number_of r) → outcome (Err r) xs ys ws ≡ s
+  refuses s r q = ap {B = Step (Watch Part) Out} (λ v. refusal v (number_of r)) watch_same ∙ sym q
 
-  -- and so does one that keeps the ends that were read
-  pub stays_put : (s : Step (Watch Part) Out) (n : ℕ) (vs : List ℕ) (r : Answer) → s ≡ refusal w n → ends_is vs ≡ ends_of e → r ≡ saying (Wd.Refused n) → outcome r xs ys vs ≡ s
-  stays_put s n vs r q u v = ap₂ {C = Step (Watch Part) Out} (λ (x : T.Ends) (y : M.Answer Out). record { next = record { rows = map row_is xs; cells = ys; ends = x }; answer = y }) u (ap answer_is v) ∙ sym q
-
-  pub no_step : (a : Act) → ((o : Outcome (Body Part) Out) → on_none kind siting w key.bytes (kind a) o ≡ refusal w 3) → is_no l ≡ true → stepped a ≡ refusal w (number_of l)
-  no_step a three h = go l (stepped_is a) h
-    where
-      go : (z : Look) → stepped a ≡ by_look w key.bytes a z → is_no z ≡ true → stepped a ≡ refusal w (number_of z)
-      go (L.At i) p q = clash q refl
-      go (L.No n) p q = p ∙ by_bool (eqb n 3) (λ y. rw y (three _ ∙ ap {B = Step (Watch Part) Out} (λ m. refusal w m) (sym (eqb_true n 3 y)))) (λ y. rw y)
-
-  pub unfit_step : (a : Act) → is_unfit l ≡ true → stepped a ≡ refusal w (number_of l)
-  unfit_step a h = go l (stepped_is a) h
-    where
-      go : (z : Look) → stepped a ≡ by_look w key.bytes a z → is_unfit z ≡ true → stepped a ≡ refusal w (number_of z)
-      go (L.At i) p q = clash q refl
-      go (L.No n) p q = p ∙ by_bool (eqb n 3) (λ y. clash q (rw y)) (λ y. rw y)
+  pub claim_passed : (o : Option ℕ) → claimable l ≡ Ok o → Passed w
+  claim_passed o fit = passed w key.bytes o (ap claimable (sym (seen ys refl)) ∙ fit)
 
   -- QUESTIONS 1 AND 2 ARE PASSED
-  module _ (fit : is_unfit l ≡ false) where
-    pub pass : Passed w
-    pass = passed w key.bytes (subst (λ (z : Look). is_unfit z ≡ false) (seen ys refl) fit)
-
+  module _ (pass : Passed w) where
     pub sizes : Sizes form w
     sizes = question_one form w pass.one
 
@@ -192,7 +151,7 @@ module _ (xs : List Row) (ys ws : List ℕ) (e : Ends) (key : Key) (l : Look) (e
         and_1 (site_fits p.heard.site) (verdict_fits p.verdict) (ap (λ (r : T.Row Part). fits r.part) (sym (row_is_lem xs n)) ∙ two.sound_at n h)
 
     -- with no row free there is one that is used
-    pub oldest : (used free : List ℕ) → Chained unmade_part (chain_of w) used free → length used + length free ≡ length (map row_is xs) → e.free ≡ NONE → e.head < length (map row_is xs)
+    oldest : (used free : List ℕ) → Chained unmade_part (chain_of w) used free → length used + length free ≡ length (map row_is xs) → e.free ≡ NONE → e.head < length (map row_is xs)
     oldest [] [] v c f = absurd (omega (arith, c, sizes.some_row))
     oldest [] (j ∷ m) v c f = absurd (below_none v.freed.0 small_rows (sym v.free_is ∙ f))
     oldest (j ∷ m) free v c f = subst (λ (n : ℕ). n < length (map row_is xs)) (sym v.head_is) v.linked.0
@@ -204,28 +163,25 @@ module _ (xs : List Row) (ys ws : List ℕ) (e : Ends) (key : Key) (l : Look) (e
     pub room_row : (room_ends xs e).free < length (map row_is xs)
     room_row = by_bool (eqb e.free NONE) (λ p. rw p (oldest_row p)) (λ p. rw p (free_row_lem unmade_part (chain_of w) two.used two.free two.chained (eqb_false e.free NONE p)))
 
-    pub head_room : (j : ℕ) → j ≡ e.head → eqb e.head NONE ≡ false → width * j + width ≤ length ys
-    head_room j ej used = subst (λ (n : ℕ). width * n + width ≤ length ys) (sym ej) (cells_room e.head (head_row unmade_part (chain_of w) two.used two.free two.chained (eqb_false e.head NONE used)))
+    pub head_room : eqb e.head NONE ≡ false → width * e.head + width ≤ length ys
+    head_room used = cells_room e.head (head_row unmade_part (chain_of w) two.used two.free two.chained (eqb_false e.head NONE used))
 
-  -- THE ROW IS HELD
-  module _ (no : is_no l ≡ false) where
-    abbrev pub i : ℕ
-    i = at_of l
-
-    abbrev pub fit : is_unfit l ≡ false
-    fit = fits_not l no
-
+  -- ROW i IS HELD
+  module _ (i : ℕ) (at : l ≡ Ok i) where
     held : HeldAt w key.bytes i
-    held = held_at w key.bytes i (sym (at_l l no) ∙ seen ys refl)
+    held = held_at w key.bytes i (sym at ∙ seen ys refl)
+
+    pub pass : Passed w
+    pass = record { one = held.one; two = held.two }
 
     pub within : i < length (map row_is xs)
     within = (found_row form w key.bytes i held.one held.two held.search).row
 
-    pub held_room : (j : ℕ) → j ≡ i → width * j + width ≤ length ys
-    held_room j ej = subst (λ (n : ℕ). width * n + width ≤ length ys) (sym ej) (cells_room fit i within)
+    pub held_room : width * i + width ≤ length ys
+    held_room = cells_room pass i within
 
-    pub held_site : (row : Row) → row ≡ get_or xs i blank → site_fits row.part.heard.site ≡ true
-    held_site row er = ap (λ (x : Row). site_fits x.part.heard.site) er ∙ sound_at_lem fit i within
+    pub held_site : site_fits (get_or xs i blank).part.heard.site ≡ true
+    held_site = sound_at_lem pass i within
 
     -- the row's key is the call's
     pub key_same : same key.bytes (row_at unmade_part (map row_is xs) i).key ≡ true
@@ -238,27 +194,26 @@ module _ (xs : List Row) (ys ws : List ℕ) (e : Ends) (key : Key) (l : Look) (e
     body_is = ap {B = Body Part} (λ (r : T.Row Part). record { part = r.part; cells = take width (drop (width * i) ys) }) (row_is_lem xs i)
 
     pub at_row : (a : Act) → stepped a ≡ on_row kind siting w i key.bytes (kind a) (row_act key.bytes (body_of xs ys i) a)
-    at_row a = stepped_is a ∙ ap (λ (z : Look). by_look w key.bytes a z) (at_l l no) ∙ ap (λ (b : Body Part). on_row kind siting w i key.bytes (kind a) (row_act key.bytes b a)) body_is
-
-  -- the cells of the row that was found, if any, are among all
-  pub look_room : RoomAt l (length ys)
-  look_room = go l refl
-    where
-      go : (z : Look) → l ≡ z → RoomAt z (length ys)
-      go (L.No n) q = tt
-      go (L.At j) q = subst (λ (n : ℕ). width * n + width ≤ length ys) (ap at_of q) (held_room (ap is_no q) (at_of l) refl)
+    at_row a = stepped_is a ∙ ap (λ (z : Result ℕ Refusal). by_look w key.bytes a z) at ∙ ap (λ (b : Body Part). on_row kind siting w i key.bytes (kind a) (row_act key.bytes b a)) body_is
 
   -- A CLAIM'S ROW: the one held, or the one that is taken
-  module _ (fit : is_unfit l ≡ false) where
-    pub new_row : is_no l ≡ true → get_or xs (at_of l) blank ≡ blank
-    new_row y = ap (λ (n : ℕ). get_or xs n blank) (at_none l y) ∙ get_or-eq_default xs blank (small fit)
+  pub claim_held : (i : ℕ) → claimable l ≡ Ok (Some i) → l ≡ Ok i
+  claim_held i fit = claim_row l i fit
 
-    pub fit_site : (row : Row) → row ≡ get_or xs (at_of l) blank → site_fits row.part.heard.site ≡ true
-    fit_site row er = by_bool (is_no l) (λ y. ap (λ (x : Row). site_fits x.part.heard.site) (er ∙ new_row y)) (λ n. held_site n row er)
+  pub new_step : (site : Option Site) → claimable l ≡ Ok None → stepped (claim site) ≡ on_new kind siting w key.bytes (row_act key.bytes (fresh_body form) (claim site))
+  new_step site fit = go l (stepped_is (claim site)) fit
+    where
+      some_none : {X : Type 0} {i : ℕ} → ◌≡◌ {A = Result (Option ℕ) Refusal} (Ok (Some i)) (Ok None) → X
+      some_none h = let z : ◌≡◌ {A = ℕ} 0 1 = cc in absurd (omega arith)
 
-    pub seat_room : (p : Part) (s : Seat) → s ≡ seat_of xs e l p → width * s.at + width ≤ length ys
-    seat_room p s es = subst (λ (x : Seat). width * x.at + width ≤ length ys) (sym es) (go l refl)
-      where
-        go : (z : Look) → l ≡ z → width * (seat_of xs e z p).at + width ≤ length ys
-        go (L.No n) q = cells_room fit (room_ends xs e).free (room_row fit)
-        go (L.At j) q = let no : is_no l ≡ false = ap is_no q in subst (λ (n : ℕ). width * n + width ≤ length ys) (ap at_of q) (held_room no (at_of l) refl)
+      go : (z : Result ℕ Refusal) → stepped (claim site) ≡ by_look w key.bytes (claim site) z → claimable z ≡ Ok None → stepped (claim site) ≡ on_new kind siting w key.bytes (row_act key.bytes (fresh_body form) (claim site))
+      go (Ok i) p q = some_none q
+      go (Err r) p q = by_bool (eqb (number_of r) 3) (λ y. p ∙ rw y) (λ y. no_ok (sym (rw y at q)))
+
+  pub claim_site : (o : Option ℕ) → claimable l ≡ Ok o → site_fits (part_at xs o).heard.site ≡ true
+  claim_site None fit = refl
+  claim_site (Some i) fit = held_site i (claim_held i fit)
+
+  pub seat_room : (o : Option ℕ) → claimable l ≡ Ok o → (p : Part) → width * (seat_of xs e o p).at + width ≤ length ys
+  seat_room None fit p = let pass = claim_passed None fit in cells_room pass (room_ends xs e).free (room_row pass)
+  seat_room (Some i) fit p = held_room i (claim_held i fit)

@@ -24,8 +24,9 @@ use Rattle.rows.specs.Search.{sizes_of}
 use Rattle.rows.proofs.Chains.{rows_long_lem}
 use Rattle.rows.proofs.Making.{rows_are}
 use Rattle.moves.specs.declared.Word.TheVariants as Wd
-use Rattle.moves.specs.declared.Answer.{Answer}
-use Rattle.moves.specs.Answers.{answer_is, outcome, saying}
+use Rattle.moves.specs.Answers.{Answer, answer_is, outcome}
+use Rattle.std.specs.Prelude.{Ok, Err}
+use Rattle.table.specs.declared.Refusal.TheVariants as R
 use Rattle.scans.specs.declared.Ends.{Ends}
 use Rattle.scans.specs.Ends.{fresh_ends}
 
@@ -33,7 +34,7 @@ sizes_so : (xs : List Row) (ys ws : List ℕ) → question1 form (watch_is xs ys
 unfolding question1
 sizes_so xs ys ws = rw (rows_long_lem xs)
 
-pub fresh_no : (xs : List Row) (ys ws : List ℕ) (t : Bool) (r : Answer) → t ≡ sizes_of (length xs) (length ys) → t ≡ false → r ≡ saying (Wd.Refused 1) → outcome r xs ys ws ≡ fresh_call (watch_is xs ys ws)
+pub fresh_no : (xs : List Row) (ys ws : List ℕ) (t : Bool) (r : Answer) → t ≡ sizes_of (length xs) (length ys) → t ≡ false → r ≡ Err R.Sizes → outcome r xs ys ws ≡ fresh_call (watch_is xs ys ws)
 fresh_no xs ys ws t r e h v =
     let s : question1 form (watch_is xs ys ws) ≡ false = sizes_so xs ys ws ∙ sym e ∙ h in
     ap {B = Step (Watch Part) Out} (λ (x : Answer). record { next = watch_is xs ys ws; answer = answer_is x }) v ∙ sym (rw s)
@@ -43,7 +44,7 @@ unfolding empty_cells
 cells_are n = sym (repeated_same width empty_word n)
 
 pub fresh_yes : (xs : List Row) (ys ws : List ℕ) (t : Bool) (zs : List Row) (cs vs : List ℕ) (d : Ends) (r : Answer) → t ≡ sizes_of (length xs) (length ys) → t ≡ true → zs ≡ fresh_from (length xs) 0 (length xs) → cs ≡ replicate (length ys) empty_word → d ≡ fresh_ends → ends_is vs ≡ ends_of d
-    → r ≡ saying Wd.Done → outcome r zs cs vs ≡ fresh_call (watch_is xs ys ws)
+    → r ≡ Ok Wd.Done → outcome r zs cs vs ≡ fresh_call (watch_is xs ys ws)
 unfolding fresh_watch most
 fresh_yes xs ys ws t zs cs vs d r e h z c q k v =
     let o : sizes_of (length xs) (length ys) ≡ true = sym e ∙ h in

@@ -1,3 +1,2 @@
 -- The definitions that contracts cite.
 pub mod Answers
-pub mod Moves

@@ -1,4 +1,6 @@
--- What is found, the best of it, and its members: a found cell has a cell around it, itself at least, so the code's 0 says 'not found'. Assumes nothing.
+-- What is found, the best of it, and its members: a found cell has a cell around it, itself at least, so that 0 tells that a cell is not found. Assumes nothing.
+use Rattle.std.specs.Prelude.{Option, Some, None, unwrap_or}
+use Rattle.std.specs.Option.{is_some}
 use mathlib.Core.Path.{◌≡◌, refl, sym, ap, ◌∙◌}
 use mathlib.Core.Bool.{Bool, true, false, ◌&&◌, ◌||◌, cond, true≢false}
 use mathlib.Core.List.{List}
@@ -37,37 +39,37 @@ hole_few g n e h = rw (those_length (occ g) from_site 1600, lt-ltb (how_many (oc
 
 -- ---- found
 -- what the code has for a cell
-abbrev pub found_cells : List ℕ → ℕ → ℕ
-found_cells g i = cond (found g i) (cells_around g i) 0
+abbrev pub found_cells : List ℕ → ℕ → Option ℕ
+found_cells g i = cond (found g i) (Some (cells_around g i)) None
 
-none_of : (o b : Bool) (n : ℕ) → 0 ≡ cond (o && (false && b)) n 0
+none_of : (o b : Bool) (n : Option ℕ) → None ≡ cond (o && (false && b)) n None
 none_of true b n = refl
 none_of false b n = refl
 
-none_of_both : (o s : Bool) (n : ℕ) → 0 ≡ cond (o && (s && false)) n 0
+none_of_both : (o s : Bool) (n : Option ℕ) → None ≡ cond (o && (s && false)) n None
 none_of_both true true n = refl
 none_of_both true false n = refl
 none_of_both false s n = refl
 
 module _ (g : List ℕ) (i : ℕ) where
-  pub f_empty : occ g i ≡ false → 0 ≡ found_cells g i
+  pub f_empty : occ g i ≡ false → None ≡ found_cells g i
   unfolding found
   f_empty o = rw o
 
-  pub f_sectors : (s : ℕ) → s ≡ sectors_in (marks_of g (east_of i) (north_of i) 1600) → s < 7 → 0 ≡ found_cells g i
+  pub f_sectors : (s : ℕ) → s ≡ sectors_in (marks_of g (east_of i) (north_of i) 1600) → s < 7 → None ≡ found_cells g i
   unfolding found around_of
-  f_sectors s e h = rw (lt-leb 7 (sectors_in (marks_of g (east_of i) (north_of i) 1600)) (rw e at h)) (none_of (occ g i) (leb 8 (ones (bits_in (near g (east_of i) (north_of i)) g 1600))) (cells_around g i))
+  f_sectors s e h = rw (lt-leb 7 (sectors_in (marks_of g (east_of i) (north_of i) 1600)) (rw e at h)) (none_of (occ g i) (leb 8 (ones (bits_in (near g (east_of i) (north_of i)) g 1600))) (Some (cells_around g i)))
 
-  pub f_bits : (b : Bool) → b ≡ leb 8 (ones (bits_in (near g (east_of i) (north_of i)) g 1600)) → b ≡ false → 0 ≡ found_cells g i
+  pub f_bits : (b : Bool) → b ≡ leb 8 (ones (bits_in (near g (east_of i) (north_of i)) g 1600)) → b ≡ false → None ≡ found_cells g i
   unfolding found around_of
-  f_bits b e h = rw (sym e ∙ h) (none_of_both (occ g i) (leb 7 (sectors_in (marks_of g (east_of i) (north_of i) 1600))) (cells_around g i))
+  f_bits b e h = rw (sym e ∙ h) (none_of_both (occ g i) (leb 7 (sectors_in (marks_of g (east_of i) (north_of i) 1600))) (Some (cells_around g i)))
 
   pub f_found :
       (s n : ℕ) (b : Bool) → occ g i ≡ true → s ≡ sectors_in (marks_of g (east_of i) (north_of i) 1600) → 7 ≤ s
       → b ≡ leb 8 (ones (bits_in (near g (east_of i) (north_of i)) g 1600)) → b ≡ true → n ≡ how_many (near g (east_of i) (north_of i)) 1600
-      → n ≡ found_cells g i
+      → Some n ≡ found_cells g i
   unfolding found cells_around around_of
-  f_found s n b o e h eb hb en = rw (o, le-leb 7 (sectors_in (marks_of g (east_of i) (north_of i) 1600)) (rw e at h), sym eb ∙ hb) en
+  f_found s n b o e h eb hb en = rw (o, le-leb 7 (sectors_in (marks_of g (east_of i) (north_of i) 1600)) (rw e at h), sym eb ∙ hb) (ap Some en)
 
 near_itself : (a b : ℕ) → within25 (dist a b a b) ≡ true
 unfolding square
@@ -87,6 +89,16 @@ own_cell g i l f =
     (rw (occupied (occ g i) (leb 7 (sectors_in (marks_of g (east_of i) (north_of i) 1600)) && leb 8 (ones (bits_in (near g (east_of i) (north_of i)) g 1600))) f, near_itself (east_of i) (north_of i)))
 
 -- ---- the best
+-- as a number: 0 where it is not found
+abbrev pub counted_cells : List ℕ → ℕ → ℕ
+counted_cells g i = cond (found g i) (cells_around g i) 0
+
+pub counted_is : {o : Option ℕ} {n : ℕ} (g : List ℕ) (i : ℕ) → o ≡ found_cells g i → n ≡ unwrap_or o 0 → n ≡ counted_cells g i
+counted_is {o} {n} g i e h = h ∙ ap (λ (t : Option ℕ). unwrap_or t 0) e ∙ by (found g i) (cells_around g i) where
+  by : (b : Bool) (k : ℕ) → unwrap_or (cond b (Some k) None) 0 ≡ cond b k 0
+  by true k = refl
+  by false k = refl
+
 -- what the code keeps with it
 abbrev pub most : List ℕ → ℕ → ℕ
 most g b = cond (eqb b 1600) 0 (cells_around g b)
@@ -98,14 +110,14 @@ more : (b : Bool) (c n : ℕ) → 0 < n → (b || ltb c n) ≡ ltb (cond b 0 c) 
 more true c n h = sym (lt-ltb 0 n h)
 more false c n h = refl
 
-test : (g : List ℕ) (i at : ℕ) → i < 1600 → (found g i && (eqb at 1600 || ltb (cells_around g at) (cells_around g i))) ≡ ltb (most g at) (found_cells g i)
+test : (g : List ℕ) (i at : ℕ) → i < 1600 → (found g i && (eqb at 1600 || ltb (cells_around g at) (cells_around g i))) ≡ ltb (most g at) (counted_cells g i)
 test g i at l = by (found g i) refl where
   by : (f : Bool) → found g i ≡ f → (f && (eqb at 1600 || ltb (cells_around g at) (cells_around g i))) ≡ ltb (most g at) (cond f (cells_around g i) 0)
   by true e = more (eqb at 1600) (cells_around g at) (cells_around g i) (own_cell g i l e)
   by false e = sym (le-ltb (most g at) 0 (omega arith))
 
 pub best_step :
-    (g : List ℕ) (i at cells n at' : ℕ) → i < 1600 → at ≡ best_of g i → cells ≡ most g at → n ≡ found_cells g i → at' ≡ cond (ltb cells n) i at
+    (g : List ℕ) (i at cells n at' : ℕ) → i < 1600 → at ≡ best_of g i → cells ≡ most g at → n ≡ counted_cells g i → at' ≡ cond (ltb cells n) i at
     → at' ≡ best_of g (i + 1)
 unfolding better
 best_step g i at cells n at' l e m f h = rw (pass_next (better g) 1600 i, sym e, test g i at l) (cc)
@@ -114,7 +126,7 @@ none_less : (n : ℕ) → ltb n 0 ≡ false
 none_less n = le-ltb n 0 (omega arith)
 
 pub best_cells :
-    (g : List ℕ) (i at cells n at' cells' : ℕ) → i < 1600 → cells ≡ most g at → n ≡ found_cells g i → at' ≡ cond (ltb cells n) i at → cells' ≡ cond (ltb cells n) n cells
+    (g : List ℕ) (i at cells n at' cells' : ℕ) → i < 1600 → cells ≡ most g at → n ≡ counted_cells g i → at' ≡ cond (ltb cells n) i at → cells' ≡ cond (ltb cells n) n cells
     → cells' ≡ most g at'
 best_cells g i at cells n at' cells' l m f ea ec = by (ltb cells n) refl (found g i) refl where
   by : (t : Bool) → ltb cells n ≡ t → (u : Bool) → found g i ≡ u → cells' ≡ most g at'
@@ -130,11 +142,11 @@ unfolding member
 member_far g best i d e h = rw (lt-leb (dist (east_of i) (north_of i) (east_of best) (north_of best)) 100 (rw e at h)) (sym (and-false (found g i)))
 
 pub member_near :
-    (g : List ℕ) (best i d n : ℕ) → i < 1600 → d ≡ dist (east_of i) (north_of i) (east_of best) (north_of best) → d ≤ 100 → n ≡ found_cells g i
-    → ltb 0 n ≡ member g best i
+    (g : List ℕ) (best i d : ℕ) (b : Bool) (o : Option ℕ) → d ≡ dist (east_of i) (north_of i) (east_of best) (north_of best) → d ≤ 100 → o ≡ found_cells g i
+    → b ≡ is_some o → b ≡ member g best i
 unfolding member
-member_near g best i d n l e h f =
-    rw (le-leb (dist (east_of i) (north_of i) (east_of best) (north_of best)) 100 (rw e at h)) (ap (ltb 0) f ∙ by (found g i) refl ∙ sym (and-true (found g i))) where
-      by : (u : Bool) → found g i ≡ u → ltb 0 (cond u (cells_around g i) 0) ≡ u
-      by true q = lt-ltb 0 (cells_around g i) (own_cell g i l q)
-      by false q = refl
+member_near g best i d b o e h f s =
+    rw (le-leb (dist (east_of i) (north_of i) (east_of best) (north_of best)) 100 (rw e at h)) (s ∙ ap is_some f ∙ by (found g i) (cells_around g i) ∙ sym (and-true (found g i))) where
+      by : (u : Bool) (k : ℕ) → is_some (cond u (Some k) None) ≡ u
+      by true k = refl
+      by false k = refl

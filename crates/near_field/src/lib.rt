@@ -3,7 +3,7 @@
 
 pub mod near;
 
-// What a judging found.
+// What a judging found: three cases, of which one has values (d).
 #[derive(Clone, Copy)]
 pub enum Judgment {
     Unjudged,

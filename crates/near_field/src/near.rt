@@ -1,5 +1,5 @@
 // The near-field judgment.
-ghost use Rattle.std.specs.Prelude.{◌≡◌, cond, ◌&&◌, ◌≤◌, ◌<◌, leb, unwrap_or, IfSome};
+ghost use Rattle.std.specs.Prelude.{◌≡◌, cond, ◌&&◌, ◌≤◌, ◌<◌, leb, unwrap_or, IfSome, Some, None};
 ghost use Rattle.cells.specs.Passes.{sum_of};
 ghost use Rattle.cells.specs.Cells.{occupied_word};
 ghost use Rattle.plane.specs.Plane.{east_of, north_of, from_site};
@@ -8,22 +8,23 @@ ghost use Rattle.near_field.specs.Near.{cells_within, no_hole, found, cells_arou
 
 use super::{Evidence, Judgment};
 use around::spans;
+use plane::{Centre, Index};
 
-// Whether a cell is occupied and at most √bound half cells from the site.
-pub fn is_within(w: u32, i: usize, bound: u64) -> bool
-    requires { i < 1600 }
-    ensures { result ≡ (occupied_word w && leb (from_site i) bound) }
+// Whether a cell is occupied and at most √bound half cells from the site. Its word and its number come from a loop over the grid, and a
+// struct of both would be made for one call (d).
+pub fn is_within(w: u32, at: Index, bound: u64) -> bool
+    ensures { result ≡ (occupied_word w && leb (from_site at.i) bound) }
 {
-    cells::occupied(w) && plane::distance(plane::east_of(i), plane::north_of(i), 40, 40) <= bound
+    cells::occupied(w) && at.from_site() <= bound
 }
 
-// How many such cells there are.
+// How many such cells there are: no more than a grid has.
 pub fn cells_within(grid: &[u32; 1600], bound: u64) -> u32
     ensures { (result ≡ cells_within grid.now bound) × (result ≤ 1600) }
 {
     let mut n = 0;
     for (i, w) in grid.iter().enumerate() {
-        n += is_within(*w, i, bound) as u32;
+        n += is_within(*w, Index { i }, bound) as u32;
     }
     n
 }
@@ -35,56 +36,6 @@ pub fn no_hole(grid: &[u32; 1600]) -> bool
     view::occupied_among(grid) < 3 || 3 <= cells_within(grid, 35)
 }
 
-// The cells around a found cell, and 0 for any other.
-fn found_cells(grid: &[u32; 1600], heard: &[u32; 1601], i: usize) -> u32
-    requires { (i < 1600) × (heard.now ≡ counts_of grid.now) }
-    ensures { result ≡ cond (found grid.now i) (cells_around grid.now i) 0 }
-{
-    if !cells::occupied(grid[i]) {
-        return 0;
-    }
-    let x = plane::east_of(i);
-    let y = plane::north_of(i);
-    if around::sectors(spans::marks_around(heard, x, y)) < 7 {
-        return 0;
-    }
-    if spans::enough_bits(grid, x, y) {
-        return spans::cells_around(heard, x, y);
-    }
-    0
-}
-
-// The found cell with most cells around, the first of those, if one is found.
-fn best_cell(grid: &[u32; 1600], heard: &[u32; 1601]) -> Option<usize>
-    requires { heard.now ≡ counts_of grid.now }
-    ensures { (unwrap_or result 1600 ≡ best_of grid.now 1600) × IfSome result (λ i. i < 1600) }
-{
-    let mut best = None;
-    let mut most = 0;
-    for i in 0..1600 {
-        let n = found_cells(grid, heard, i);
-        if most < n {
-            best = Some(i);
-            most = n;
-        }
-    }
-    best
-}
-
-// Whether a cell is found, and within 25 km of the best.
-fn is_member(grid: &[u32; 1600], heard: &[u32; 1601], best: usize, i: usize) -> bool
-    requires { (best < 1600) × (i < 1600) × (heard.now ≡ counts_of grid.now) }
-    ensures { result ≡ member grid.now best i }
-{
-    let d = plane::distance(
-        plane::east_of(i),
-        plane::north_of(i),
-        plane::east_of(best),
-        plane::north_of(best),
-    );
-    d <= 100 && 0 < found_cells(grid, heard, i)
-}
-
 // How many members there are, and the sums of their easts and norths.
 #[derive(Clone, Copy)]
 struct Group {
@@ -93,41 +44,94 @@ struct Group {
     pub north: u32,
 }
 
-fn group_of(grid: &[u32; 1600], heard: &[u32; 1601], best: usize) -> Group
-    requires { (best < 1600) × (heard.now ≡ counts_of grid.now) }
-    ensures { (result.cells ≡ members grid.now best) × (result.east ≡ sum_of (member grid.now best) east_of 1600) × (result.north ≡ sum_of (member grid.now best) north_of 1600) × (result.cells ≤ 1600) × (result.east ≤ 126400) × (result.north ≤ 126400) }
-{
-    let mut n = 0;
-    let mut east = 0;
-    let mut north = 0;
-    for i in 0..1600 {
-        if is_member(grid, heard, best, i) {
-            n += 1;
-            east += plane::east_of(i);
-            north += plane::north_of(i);
-        }
-    }
-    Group {
-        cells: n,
-        east,
-        north,
-    }
+// A grid, and before each cell how many are occupied.
+#[derive(Clone, Copy)]
+struct Counted<'a> {
+    grid: &'a [u32; 1600],
+    heard: &'a [u32; 1601],
+    ghost counted: { heard.now ≡ counts_of grid.now },
 }
 
-// The judgment of the group around the best cell.
-fn found_at(grid: &[u32; 1600], heard: &[u32; 1601], best: usize, scale: u64) -> Judgment
-    requires { (best < 1600) × (scale ≤ 4) × (heard.now ≡ counts_of grid.now) }
-    ensures { result ≡ found_of scale grid.now best }
-{
-    let g = group_of(grid, heard, best);
-    let n = g.cells as u64;
-    let m = plane::gap(g.east as u64, 40 * n) + plane::gap(g.north as u64, 40 * n);
-    if m < 10 * n * (10 * n) {
-        return Judgment::Unjudged;
+impl<'a> Counted<'a> {
+    // The cells around a cell, if it is a found one.
+    fn found_cells(self, at: Index) -> Option<u32>
+        ensures { result ≡ cond (found self.entry.grid.now at.i) (Some (cells_around self.entry.grid.now at.i)) None }
+    {
+        if !cells::occupied(self.grid[at.i]) {
+            return None;
+        }
+        let centre = at.centre();
+        if around::sectors(spans::marks_around(self.heard, centre)) < 7 {
+            return None;
+        }
+        if spans::enough_bits(self.grid, centre.place) {
+            return Some(spans::cells_around(self.heard, centre.place));
+        }
+        None
     }
-    Judgment::Wrong {
-        off_km: plane::rounded(scale * m, n),
-        by: Evidence::NearField,
+
+    // The found cell with most cells around, the first of those, if one is found.
+    fn best_cell(self) -> Option<usize>
+        ensures { (unwrap_or result 1600 ≡ best_of self.entry.grid.now 1600) × IfSome result (λ i. i < 1600) }
+    {
+        let mut best = None;
+        let mut most = 0;
+        for i in 0..1600 {
+            let n = self.found_cells(Index { i }).unwrap_or(0);
+            if most < n {
+                best = Some(i);
+                most = n;
+            }
+        }
+        best
+    }
+
+    // Whether a cell is found, and within 25 km of the best.
+    fn is_member(self, best: Index, at: Index) -> bool
+        ensures { result ≡ member self.entry.grid.now best.i at.i }
+    {
+        let d = at.centre().place.distance(best.centre().place);
+        d <= 100 && self.found_cells(at).is_some()
+    }
+
+    // The members.
+    fn group_of(self, best: Index) -> Group
+        ensures { (result.cells ≡ members self.entry.grid.now best.i) × (result.east ≡ sum_of (member self.entry.grid.now best.i) east_of 1600) × (result.north ≡ sum_of (member self.entry.grid.now best.i) north_of 1600) × (result.cells ≤ 1600) × (result.east ≤ 126400) × (result.north ≤ 126400) }
+    {
+        let mut n = 0;
+        let mut east = 0;
+        let mut north = 0;
+        for i in 0..1600 {
+            let at = Index { i };
+            if self.is_member(best, at) {
+                let centre = at.centre();
+                n += 1;
+                east += centre.place.x;
+                north += centre.place.y;
+            }
+        }
+        Group {
+            cells: n,
+            east,
+            north,
+        }
+    }
+
+    // The judgment of the group around the best cell.
+    fn found_at(self, best: Index, scale: u64) -> Judgment
+        requires { scale ≤ 4 }
+        ensures { result ≡ found_of scale self.entry.grid.now best.i }
+    {
+        let g = self.group_of(best);
+        let n = g.cells as u64;
+        let m = plane::gap(g.east as u64, 40 * n) + plane::gap(g.north as u64, 40 * n);
+        if m < 10 * n * (10 * n) {
+            return Judgment::Unjudged;
+        }
+        Judgment::Wrong {
+            off_km: plane::rounded(scale * m, n),
+            by: Evidence::NearField,
+        }
     }
 }
 
@@ -136,7 +140,7 @@ pub fn near_field_by(grid: &[u32; 1600], outside: bool, scale: u64) -> Judgment
     requires { scale ≤ 4 }
     ensures { result ≡ near_field_by scale grid.now outside }
 {
-    let s = around::sectors(around::around(grid, 40, 40).marks);
+    let s = around::sectors(around::around(grid, Centre::SITE).marks);
     if 5 <= s {
         return Judgment::Fits;
     }
@@ -150,8 +154,12 @@ pub fn near_field_by(grid: &[u32; 1600], outside: bool, scale: u64) -> Judgment
         return Judgment::Unjudged;
     }
     let heard = spans::heard_before(grid);
-    match best_cell(grid, &heard) {
-        Some(best) => found_at(grid, &heard, best, scale),
+    let counted = Counted {
+        grid,
+        heard: &heard,
+    };
+    match counted.best_cell() {
+        Some(i) => counted.found_at(Index { i }, scale),
         None => Judgment::Unjudged,
     }
 }

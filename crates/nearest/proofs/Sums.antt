@@ -1,5 +1,5 @@
 -- Sums over numbered things: bounds, and a loop that ends with the last of them. Assumes nothing.
-use mathlib.Core.Path.{◌≡◌, refl, ap}
+use mathlib.Core.Path.{◌≡◌, refl}
 use mathlib.Core.Bool.{Bool, true, false, cond}
 use mathlib.Core.Logic.{⊎_elim}
 use mathlib.Core.List.{List}
@@ -11,7 +11,6 @@ use lib.ListN.{get_or}
 use Rattle.cells.specs.Cells.{count_of, occupied_word}
 use Rattle.cells.specs.Passes.{pass, sum_of}
 use Rattle.cells.proofs.Passes.{sum_step}
-use Rattle.cells.proofs.Words.{count_small}
 use Rattle.view.specs.View.{positions_among}
 
 bounded : (b : Bool) (s k n : ℕ) → k ≤ 255 → s ≤ 255 * n → cond b (s + k) s ≤ 255 * suc n

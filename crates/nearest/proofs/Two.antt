@@ -25,7 +25,7 @@ use Rattle.nearest.specs.Nothing.{Place, nearest_of, km, edges, cell_place, bin_
 use Rattle.view.specs.View.{positions_among}
 use Rattle.nearest.specs.Counted.{cell_step, bin_step, step_of, spot_of, no_place, cell_spot, bin_spot, first_two, two_nearest, put, nearer, nearest_among}
 use Rattle.nearest.proofs.Sums.{none_behind}
-use Rattle.nearest.proofs.Steps.{every, every_at}
+use Rattle.nearest.proofs.Steps.{every, every_at, bands}
 
 -- ---- one more element of a list in order
 module _ {A : Type 0} (key : A → ℕ) where
@@ -177,16 +177,13 @@ module _ (place : ℕ → Place) (spot : ℕ → ℕ → Spot) (words : List ℕ
       grown (occupied_word (get_or words n 0)) n (nearest_among spot words (two_nearest l) n) (heard place words n) (low n (omega arith)) (among_heard n (λ i h. low i (omega arith)))
 
 -- ---- the nine edges
-unfoldable pub edge_squares : List ℕ
-edge_squares = 1600 ∷ 3600 ∷ 6400 ∷ 10000 ∷ 14400 ∷ 19600 ∷ 25600 ∷ 40000 ∷ 78400 ∷ []
-
-edges_right : every (λ (b : ℕ). eqb (get_or edge_squares b 0) (km (get_or edges b 0))) 9 ≡ true
-unfolding edge_squares every km square edges
+edges_right : every (λ (b : ℕ). eqb (get_or bands b (0, 0)).0 (km (get_or edges b 0))) 9 ≡ true
+unfolding bands every km square edges
 edges_right = refl
 
-pub edge_square : (j : ℕ) → get_or edge_squares (j % 9) 0 ≡ km (get_or edges (j % 9) 0)
+pub edge_square : (j : ℕ) → (get_or bands (j % 9) (0, 0)).0 ≡ km (get_or edges (j % 9) 0)
 edge_square j =
-    eqb-true (get_or edge_squares (j % 9) 0) (km (get_or edges (j % 9) 0)) (every_at (λ (b : ℕ). eqb (get_or edge_squares b 0) (km (get_or edges b 0))) 9 edges_right (j % 9) (mod-lt j (zero-lt-suc 8)))
+    eqb-true (get_or bands (j % 9) (0, 0)).0 (km (get_or edges (j % 9) 0)) (every_at (λ (b : ℕ). eqb (get_or bands b (0, 0)).0 (km (get_or edges b 0))) 9 edges_right (j % 9) (mod-lt j (zero-lt-suc 8)))
 
 -- ---- no cell and no bin is farther than none
 cell_low : (i : ℕ) → i < 1600 → from_site i < 1048576

@@ -7,6 +7,8 @@ ghost use Rattle.cells.specs.Cells.{count_of};
 ghost use Rattle.view.specs.View.{positions_among};
 ghost use Rattle.nearest.specs.Counted.{cell_step, bin_step, cell_steps, all_steps, cell_spot, bin_spot, two_nearest, put, nearer, nearest_among};
 
+use plane::Index;
+
 // A place heard: the square of its nearest distance, half cells, the steps of its typical one, and its positions.
 #[derive(Clone, Copy)]
 pub struct Spot {
@@ -23,34 +25,42 @@ pub struct Nearest {
 }
 
 // The steps that a cell's distance is said in.
-fn cell_step(i: usize) -> usize
-    requires { i < 1600 }
-    ensures { (result ≡ cell_step i) × (result < 161) }
+fn cell_step(at: Index) -> usize
+    ensures { (result ≡ cell_step at.i) × (result < 161) }
 {
-    let d = plane::distance(plane::east_of(i), plane::north_of(i), 40, 40);
-    plane::steps_of(d, 1) as usize
+    plane::steps_of(at.from_site(), 1) as usize
 }
 
-// The steps of the nine bands' typical distances.
-const TYPICALS: [usize; 9] = [25, 35, 45, 55, 65, 75, 90, 120, 160];
+// Of the nine bands of bins: the square of the edge, half cells, and the steps of the typical distance.
+const BANDS: [(u64, usize); 9] = [
+    (1600, 25),
+    (3600, 35),
+    (6400, 45),
+    (10000, 55),
+    (14400, 65),
+    (19600, 75),
+    (25600, 90),
+    (40000, 120),
+    (78400, 160),
+];
 
 fn bin_step(j: usize) -> usize
     ensures { (result ≡ bin_step j) × (result < 161) }
 {
-    TYPICALS[j % 9]
+    BANDS[j % 9].1
 }
 
-// A cell's positions added at its steps.
-fn gather_cell(at: &mut [u32; 161], w: u32, i: usize)
-    requires { (i < 1600) × (get_or at.old (cell_step i) 0 ≤ 408000) }
-    ensures { at.new ≡ set at.old (cell_step i) (get_or at.old (cell_step i) 0 + count_of w) }
+// A cell's positions added at its steps. Its word and its number, here and below, come from a loop over the grid: a struct of both would be made for one call (d).
+fn gather_cell(steps: &mut [u32; 161], w: u32, at: Index)
+    requires { get_or steps.old (cell_step at.i) 0 ≤ 408000 }
+    ensures { steps.new ≡ set steps.old (cell_step at.i) (get_or steps.old (cell_step at.i) 0 + count_of w) }
 {
     let n = cells::count_of(w);
     if n == 0 {
         return;
     }
-    let k = cell_step(i);
-    at[k] += n;
+    let k = cell_step(at);
+    steps[k] += n;
 }
 
 // The positions of the cells, by their steps.
@@ -59,7 +69,7 @@ pub fn cell_steps(grid: &[u32; 1600]) -> [u32; 161]
 {
     let mut at = [0u32; 161];
     for (i, w) in grid.iter().enumerate() {
-        gather_cell(&mut at, *w, i);
+        gather_cell(&mut at, *w, Index { i });
     }
     at
 }
@@ -111,23 +121,22 @@ fn put(near: Nearest, spot: Spot) -> Nearest
         };
     }
     Nearest {
-        first: near.first,
         second: spot,
+        ..near
     }
 }
 
 // The two nearest with one more cell, behind its equals.
-fn with_cell(near: Nearest, w: u32, i: usize) -> Nearest
-    requires { i < 1600 }
-    ensures { result ≡ nearer near (cell_spot w i) }
+fn with_cell(near: Nearest, w: u32, at: Index) -> Nearest
+    ensures { result ≡ nearer near (cell_spot w at.i) }
 {
-    let d = plane::distance(plane::east_of(i), plane::north_of(i), 40, 40);
+    let d = at.from_site();
     if d < near.second.nearest {
         return put(
             near,
             Spot {
                 nearest: d,
-                step: cell_step(i),
+                step: cell_step(at),
                 positions: cells::count_of(w),
             },
         );
@@ -135,14 +144,11 @@ fn with_cell(near: Nearest, w: u32, i: usize) -> Nearest
     near
 }
 
-// The squares of the nine bands' edges, half cells.
-const EDGES: [u64; 9] = [1600, 3600, 6400, 10000, 14400, 19600, 25600, 40000, 78400];
-
 // The same with one more bin.
 fn with_bin(near: Nearest, w: u32, j: usize) -> Nearest
     ensures { result ≡ nearer near (bin_spot w j) }
 {
-    let d = EDGES[j % 9];
+    let d = BANDS[j % 9].0;
     if d < near.second.nearest {
         return put(
             near,
@@ -163,7 +169,7 @@ pub fn nearest_cells(grid: &[u32; 1600]) -> Nearest
     let mut near = none_nearest();
     for (i, w) in grid.iter().enumerate() {
         if cells::occupied(*w) {
-            near = with_cell(near, *w, i);
+            near = with_cell(near, *w, Index { i });
         }
     }
     near

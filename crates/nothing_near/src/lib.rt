@@ -12,13 +12,16 @@ ghost use Rattle.nothing_near.specs.Counted.{near_cells, reached_at, Kept};
 
 use near_field::near;
 use nearest::{Nearest, Spot, cell_steps, nearest_bins, nearest_cells, none_nearest, with_bins};
-use view::Far;
+use plane::Index;
+use view::{Far, Merged};
 
 // How many places were heard.
-pub fn places_in(grid: &[u32; 1600], far: Far) -> u32
-    ensures { result ≡ places grid.now far }
+pub fn places_in(m: Merged) -> u32
+    ensures { result ≡ places m.entry.grid.now m.entry.far }
 {
-    view::occupied_among(grid) + view::occupied_among(&far.cells)
+    // by way of a name, here and below: the prover takes no reference that a field holds as a slice
+    let grid = m.grid;
+    view::occupied_among(grid) + view::occupied_among(&m.far.cells)
 }
 
 // How many occupied cells are under 60 km away, but no more than three. Rows 0 to 7 and 32 to 39 have none.
@@ -27,7 +30,7 @@ fn near_cells(grid: &[u32; 1600]) -> u32
 {
     let mut n = 0;
     for i in 320..1280 {
-        n += near::is_within(grid[i], i, 575) as u32;
+        n += near::is_within(grid[i], Index { i }, 575) as u32;
         if n == 3 {
             return 3;
         }
@@ -36,18 +39,18 @@ fn near_cells(grid: &[u32; 1600]) -> u32
 }
 
 // Whether the third nearest place, or the last of fewer, is under 60 km away.
-fn third_is_near(grid: &[u32; 1600], far: Far) -> bool
-    requires { 0 < positions_in (places_heard grid.now far) }
-    ensures { result ≡ ltb (third (places_heard grid.now far)).nearest (km 60) }
+fn third_is_near(m: Merged) -> bool
+    requires { 0 < positions_in (places_heard m.grid.now m.far) }
+    ensures { result ≡ ltb (third (places_heard m.entry.grid.now m.entry.far)).nearest (km 60) }
 {
-    let near = near_cells(grid);
+    let near = near_cells(m.grid);
     if near == 0 {
         return false;
     }
     if near == 3 {
         return true;
     }
-    places_in(grid, far) <= near
+    places_in(m) <= near
 }
 
 // The steps of the typical distance: the least at which twice the positions so far reach the total.
@@ -94,17 +97,18 @@ fn steps_from_third(at: [u32; 161], total: u32, near: Nearest) -> u32
 }
 
 // The nothing-near distance, if nothing is near. The bins are summed here, so nothing is asked of `far.positions`.
-pub fn nothing_near(grid: &[u32; 1600], far: Far) -> Option<u32>
-    ensures { result ≡ nothing_near grid.now far }
+pub fn nothing_near(m: Merged) -> Option<u32>
+    ensures { result ≡ nothing_near m.entry.grid.now m.entry.far }
 {
-    let bins = far.cells;
+    let bins = m.far.cells;
+    let grid = m.grid;
     let inside = view::positions_among(grid);
     let past = view::positions_among(&bins);
     let total = inside + past;
     if total < 60 {
         return None;
     }
-    if third_is_near(grid, far) {
+    if third_is_near(m) {
         return None;
     }
     let near = nearest_bins(nearest_cells(grid), bins, past);

@@ -5,7 +5,7 @@ use Rattle.std.specs.List.{slice_get}
 use mathlib.Core.Path.{◌≡◌, refl, sym, ◌∙◌}
 use mathlib.Core.Bool.{Bool, true, false, ◌&&◌, cond, and-true, and-false}
 use mathlib.Core.List.{List, [], ◌∷◌}
-use Prim.Native.Nat.{ℕ, ◌+◌, ◌-◌, ◌*◌, ◌^◌, ◌≤◌, ◌<◌}
+use Prim.Native.Nat.{ℕ, ◌+◌, ◌*◌, ◌≤◌, ◌<◌}
 use native.Mathlib.Nat.{mul-le-mul_left, mul-one}
 use native.Mathlib.Omega.{arith}
 use borrow.Author.Tests.{lt-ltb, le-ltb, le-leb, lt-leb, leb-true}
@@ -14,7 +14,7 @@ use lib.Pointwise.{pointwise}
 use denote.Bor.{Bor}
 use Rattle.std.proofs.lemmas.List.{drop_more}
 use lib.ListN.{drop_of_length-le, length, get_or, take, drop}
-use Rattle.numbers.specs.Numbers.{digit_of, all_digits, value_on, number_on, whole_of, is_minus, unsigned_of, minus_of, plus_of, signed_of}
+use Rattle.numbers.specs.Numbers.{digit_of, all_digits, value_on, number_on, whole_of, is_minus, unsigned_of}
 
 -- more digits make no number smaller
 pub value_grows : (base n : ℕ) (s : List ℕ) → 0 < base → n ≤ value_on base n s
@@ -100,14 +100,6 @@ pub unsigned_is : (s : List ℕ) (o : Option (Bor (List ℕ))) (d : Bor (List �
 unfolding unsigned_of
 unsigned_is s None d e h = rw (sym (starts_is s) ∙ h) e
 unsigned_is s (Some x) d e h = rw (sym (starts_is s) ∙ h.0) h.1
-
-pub signed_minus : (s : List ℕ) → is_minus s ≡ true → minus_of (whole_of (2 ^ 31) (unsigned_of s)) ≡ signed_of s
-unfolding signed_of
-signed_minus s e = rw e
-
-pub signed_plain : (s : List ℕ) → is_minus s ≡ false → plus_of (whole_of (2 ^ 31 - 1) (unsigned_of s)) ≡ signed_of s
-unfolding signed_of
-signed_plain s e = rw e
 
 pub whole_within : (most k : ℕ) (s : List ℕ) → whole_of most s ≡ Some k → k ≤ most
 unfolding whole_of

@@ -78,7 +78,7 @@ fn read_plus(s: &[u8]) -> Option<i32>
     Some(n as i32)
 }
 
-// A decimal i32.
+// A decimal i32. Each sign has its own limit, and so its own reader (d).
 #[tactic(auto, unfolding(crate::specs::Numbers::signed_of))]
 pub fn read_signed(s: &[u8]) -> Option<i32>
     ensures { result ≡ signed_of s.now }

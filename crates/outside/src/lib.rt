@@ -10,23 +10,22 @@ ghost use Rattle.around.specs.Marks.{cell_in, bin_in, outside_of};
 
 use angles::bearing;
 use around::sectors;
+use plane::Index;
 use trig::num;
-use view::Far;
+use view::{Far, Merged};
 
-// The marks with that of cell i, seen from the site, if it is occupied and over 3 km away.
-fn cell_mark(marks: [bool; 8], w: u32, i: usize) -> [bool; 8]
-    requires { i < 1600 }
-    ensures { result ≡ cond (occupied_word w && over3 (from_site i)) (set marks (sector_from (east_of i) (north_of i) 40 40) true) marks }
+// The marks with that of cell i, seen from the site, if it is occupied and over 3 km away. Its word and its number come from a loop over the
+// grid: a struct of both would be made for one call (d).
+fn cell_mark(marks: [bool; 8], w: u32, at: Index) -> [bool; 8]
+    ensures { result ≡ cond (occupied_word w && over3 (from_site at.i)) (set marks (sector_from (east_of at.i) (north_of at.i) 40 40) true) marks }
 {
     if !cells::occupied(w) {
         return marks;
     }
-    let cx = plane::east_of(i);
-    let cy = plane::north_of(i);
-    let d = plane::distance(cx, cy, 40, 40);
-    if 144 < 100 * d {
-        let east = num::sub(cx as u64, 40);
-        let north = num::sub(cy as u64, 40);
+    if 144 < 100 * at.from_site() {
+        let centre = at.centre().place;
+        let east = num::sub(centre.x as u64, 40);
+        let north = num::sub(centre.y as u64, 40);
         let k = bearing::sector_of(east, north);
         return around::with_mark(marks, k as usize, true);
     }
@@ -40,7 +39,7 @@ fn cell_marks(grid: &[u32; 1600]) -> [bool; 8]
     let mut m = [false; 8];
     for (i, w) in grid.iter().enumerate() {
         // by way of a name, here and below: the prover takes no array that a call lays into a variable of a loop
-        let next = cell_mark(m, *w, i);
+        let next = cell_mark(m, *w, Index { i });
         m = next;
     }
     m
@@ -67,10 +66,10 @@ fn bin_marks(marks: [bool; 8], bins: &[u32; 72]) -> [bool; 8]
 }
 
 // Whether all that is heard lies in at most 4 sectors.
-pub fn outside(grid: &[u32; 1600], far: Far) -> bool
-    ensures { result ≡ outside_of grid.now far.cells }
+pub fn outside(m: Merged) -> bool
+    ensures { result ≡ outside_of m.entry.grid.now m.entry.far.cells }
 {
-    sectors(bin_marks(cell_marks(grid), &far.cells)) <= 4
+    sectors(bin_marks(cell_marks(m.grid), &m.far.cells)) <= 4
 }
 
 // The same where no cell of the grid is occupied.

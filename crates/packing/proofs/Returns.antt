@@ -29,8 +29,10 @@ module _ {A : Type 0} (most : ℕ) (f : A → ℕ) (g : ℕ → A) (In : A → T
   maybe_fits_lem (Some v) q h = le-leb (f v) most (laws.fits v h)
   maybe_fits_lem None q h = refl
 
-pub id_back : (i : Option ℕ) (q : List ℕ) → IfSome i (λ n. n ≤ most64) → maybe_of (λ w. w) (id_words i ++ q) ≡ i
-id_back = maybe_back most64 (λ n. n) (λ w. w) (λ n. n ≤ most64) whole_laws
+-- every number is its own word
+pub id_back : (i : Option ℕ) (q : List ℕ) → maybe_of (λ w. w) (id_words i ++ q) ≡ i
+id_back (Some n) q = refl
+id_back None q = refl
 
 pub id_fits : (i : Option ℕ) (q : List ℕ) → IfSome i (λ n. n ≤ most64) → maybe_fits most64 (id_words i ++ q) ≡ true
 id_fits = maybe_fits_lem most64 (λ n. n) (λ w. w) (λ n. n ≤ most64) whole_laws

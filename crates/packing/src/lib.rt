@@ -18,6 +18,7 @@ use verdicts::{Last, Verdict};
 
 // ---- a value that one word holds
 
+// Each type says how its word is made, tested and read, in however few words: what holds a value or none is generic over it (d).
 pub trait Word: Copy {
     // The largest word of such a value.
     ghost most: { ℕ };
@@ -178,6 +179,7 @@ impl Word for Last {
 
     ghost laws = { last_laws };
 
+    // The numbers are those of siting.h and of a row line, so they stand here, with the words (a).
     fn word(self) -> u64 {
         match self {
             Last::Unjudged => 0,
@@ -246,7 +248,7 @@ fn zeros(words: &[u64]) -> bool
 
 // ---- key
 
-// Eight bytes from the i-th on, the first lowest.
+// Eight bytes from the i-th on, the first lowest. By where they begin, since `key_word` promises them of any place (d).
 fn word_at(bytes: &[u8], i: usize) -> u64
     requires { i + 8 ≤ length bytes.now }
     ensures { (result ≡ from_le_bytes w64 (eight bytes.now i)) × Bytes bytes.now }
@@ -261,6 +263,7 @@ pub fn key_word(key: [u8; 32], i: usize) -> u64
     word_at(&key, i)
 }
 
+// Written out: a loop would fill an array of zeros, in as many lines (d).
 pub fn key_words(key: [u8; 32]) -> [u64; 4]
     ensures { (result ≡ key_words key) × KeyIn key }
 {
@@ -291,6 +294,7 @@ fn bits(x: f64) -> u64
     print::bits_of(x)
 }
 
+#[tactic(auto, unfolding(crate::specs::Words::site_words))]
 pub fn site_words(site: Option<Site>) -> [u64; 5]
     ensures { (result ≡ site_words site) × SiteIn site }
 {
@@ -314,6 +318,7 @@ pub fn site_fits(words: &[u64]) -> bool
     }
 }
 
+// No `From`, here and of a verdict: an Option and a slice are both the library's (d).
 #[tactic(auto, unfolding(crate::specs::Words::site_of))]
 pub fn site_of(words: &[u64]) -> Option<Site>
     requires { 5 ≤ length words.now }
@@ -331,6 +336,7 @@ pub fn site_of(words: &[u64]) -> Option<Site>
 
 // ---- verdict
 
+#[tactic(auto, unfolding(crate::specs::Words::verdict_words))]
 pub fn verdict_words(verdict: Option<Verdict>) -> [u64; 7]
     ensures { (result ≡ verdict_words verdict) × VerdictIn verdict }
 {
@@ -351,6 +357,7 @@ pub fn verdict_words(verdict: Option<Verdict>) -> [u64; 7]
     }
 }
 
+// Seven words of a longer slice, here and below: an array would ask callers for no more than seven (d).
 #[tactic(auto, unfolding(crate::specs::Words::run_fits))]
 fn run_fits(words: &[u64]) -> bool
     requires { 7 ≤ length words.now }
@@ -393,6 +400,7 @@ pub fn verdict_of(words: &[u64]) -> Option<Verdict>
 
 // ---- stores
 
+// A run of words from a place on: a caller says where it begins, and the run itself where it ends (d).
 pub fn put(words: &mut [u64], at: usize, run: &[u64])
     requires { at + length run.now ≤ length words.old }
     ensures { words.new ≡ sets words.old at run.now }

@@ -31,7 +31,7 @@ fn bin_past(w: u32, bin: usize, antenna_root: f64) -> Option<f64>
 }
 
 // The middle excess of the bins past the horizon, if enough are: three bins, three aircraft, one position in twenty. The excesses
-// fill an array from its end.
+// fill an array from its end, since there is no heap (a).
 fn middle_excess(site: Site, far: Far) -> Option<f64>
     ensures { result ≡ past_horizon site far }
 {
@@ -61,7 +61,8 @@ fn middle_excess(site: Site, far: Far) -> Option<f64>
     Some(rank::nth(&xs[at..], n / 2))
 }
 
-// The same; where fewer than three bins are occupied no root need be taken.
+// The same; where fewer than three bins are occupied no root need be taken. A function of its own: in one with `middle_excess` the bins
+// are copied before the test, and a judging where little is heard takes 20 ns more.
 pub fn past_horizon(site: Site, far: Far) -> Option<f64>
     ensures { result ≡ past_horizon site far }
 {

@@ -1,21 +1,57 @@
 // The grid's plane, in half cells from its south-west corner: where a cell's centre lies, how far two places are apart, and the distance said.
 #![tactic(auto)]
 
-ghost use Rattle.std.specs.Prelude.{◌≡◌, ◌+◌, ◌*◌, ◌≤◌, ◌<◌, ◌^◌, max};
-ghost use Rattle.plane.specs.Plane.{east_of, north_of, apart, square, steps, said};
+ghost use Rattle.std.specs.Prelude.{◌≡◌, ◌*◌, ◌%◌, ◌≤◌, ◌<◌, ◌^◌, max};
+ghost use Rattle.plane.specs.Plane.{east_of, north_of, apart, square, dist, from_site, steps, said};
 
-pub fn east_of(i: usize) -> u32
-    requires { i < 1600 }
-    ensures { result ≡ east_of i }
-{
-    (2 * (i % 40) + 1) as u32
+// A cell of the grid, by its number.
+#[derive(Clone, Copy)]
+pub struct Index {
+    pub i: usize,
+    pub ghost in_grid: { i < 1600 },
 }
 
-pub fn north_of(i: usize) -> u32
-    requires { i < 1600 }
-    ensures { result ≡ north_of i }
-{
-    (2 * (i / 40) + 1) as u32
+// A place of the grid's square.
+#[derive(Clone, Copy)]
+pub struct Place {
+    pub x: u32,
+    pub y: u32,
+    pub ghost in_grid: { (x < 80) × (y < 80) },
+}
+
+// A cell's centre, or the site: both numbers are odd, or both even.
+#[derive(Clone, Copy)]
+pub struct Centre {
+    pub place: Place,
+    pub ghost alike: { place.x % 2 ≡ place.y % 2 },
+}
+
+impl Index {
+    // The cell's centre.
+    pub fn centre(self) -> Centre
+        ensures { (result.place.x ≡ east_of self.i) × (result.place.y ≡ north_of self.i) }
+    {
+        Centre {
+            place: Place {
+                x: (2 * (self.i % 40) + 1) as u32,
+                y: (2 * (self.i / 40) + 1) as u32,
+            },
+        }
+    }
+
+    // The square of its distance from the site.
+    pub fn from_site(self) -> u64
+        ensures { (result ≡ from_site self.i) × (result ≤ 2 ^ 41) }
+    {
+        self.centre().place.distance(Centre::SITE.place)
+    }
+}
+
+impl Centre {
+    // The site, in the grid's middle.
+    pub const SITE: Centre = Centre {
+        place: Place { x: 40, y: 40 },
+    };
 }
 
 // The square of how far two numbers are apart.
@@ -28,15 +64,16 @@ pub fn gap(a: u64, b: u64) -> u64
     d * d
 }
 
-// The square of the distance of (cx, cy) from (x, y).
-pub fn distance(cx: u32, cy: u32, x: u32, y: u32) -> u64
-    requires { (cx < 80) × (cy < 80) × (x < 80) × (y < 80) }
-    ensures { (result ≡ square (apart cx x) + square (apart cy y)) × (result ≤ 2 ^ 41) }
-{
-    gap(cx as u64, x as u64) + gap(cy as u64, y as u64)
+impl Place {
+    // The square of its distance from another.
+    pub fn distance(self, from: Place) -> u64
+        ensures { (result ≡ dist self.x self.y from.x from.y) × (result ≤ 2 ^ 41) }
+    {
+        gap(self.x as u64, from.x as u64) + gap(self.y as u64, from.y as u64)
+    }
 }
 
-// √num / den half cells in steps of 5 km, halves up.
+// √num / den half cells in steps of 5 km, halves up. den is a number of cells, or 1: no more than a grid has.
 pub fn steps_of(num: u64, den: u64) -> u32
     requires { den ≤ 1600 }
     ensures { (result ≡ steps num den) × (result ≤ 160) }

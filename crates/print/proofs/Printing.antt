@@ -3,8 +3,9 @@ use mathlib.Core.Path.{◌≡◌, refl, sym, ap, ◌∙◌}
 use mathlib.Core.Bool.{Bool, true, false, ◌&&◌, cond}
 use mathlib.Core.List.{List, [], ◌∷◌}
 use Prim.Native.Nat.{ℕ, zero, suc, ◌+◌, ◌-◌, ◌/◌, ◌%◌, ◌^◌, ◌≤◌, ◌<◌}
-use native.Mathlib.Nat.{div-div-eq-div-mul, pow-suc}
+use native.Mathlib.Nat.{div-div-eq-div-mul, mod-eq_of_lt, pow-suc}
 use native.Mathlib.Omega.{arith}
+use Rattle.std.proofs.Math.Nat.{div-one}
 use borrow.Author.Tests.{eq-eqb, ne_eqb, lt-ltb, le-leb, lt-leb}
 use lib.Dec.{eqb}
 use Rattle.std.proofs.lemmas.List.{drop_more}
@@ -47,6 +48,11 @@ digits_length base (suc k) n = ap suc (digits_length base k n)
 pub last_digits : (base n : ℕ) → drop 4 (digits base 20 n) ≡ digits base 16 n
 unfolding digits
 last_digits base n = refl
+
+-- the two digits of a byte
+pub two_digits : (b n x y : ℕ) → b < 256 → n ≡ b → x ≡ glyph_of (n / 16) → y ≡ glyph_of (n % 16) → x ∷ y ∷ [] ≡ digits 16 2 b
+unfolding digits
+two_digits b n x y h e f g = rw (f, g, e, mod-eq_of_lt {n = b / 16} {m = 16} (omega arith), div-one b) refl
 
 -- ---- zeros in front
 pub zeros_none : (s : List ℕ) → length s ≡ 0 → s ≡ without_zeros s

@@ -1,5 +1,6 @@
 -- Numbers and words as answers write them. Definitions only.
-use Rattle.std.specs.Prelude.{ℕ, zero, suc, ◌+◌, ◌/◌, ◌%◌, ◌^◌, ◌&&◌, cond, List, [], ◌∷◌, ◌++◌, length, take, drop, eqb, leb, ltb}
+use Rattle.std.specs.Prelude.{◌≡◌, ℕ, zero, suc, ◌+◌, ◌/◌, ◌%◌, ◌^◌, ◌&&◌, cond, List, [], ◌∷◌, ◌++◌, length, take, drop, eqb, leb, ltb}
+use Rattle.print.specs.declared.Text.{Text}
 
 -- a digit in ASCII: `0` to `9`, then `a` to `f`
 unfoldable pub glyph_of : ℕ → ℕ
@@ -25,6 +26,10 @@ decimal_text n = without_zeros (digits 10 20 n)
 unfoldable pub bits_text : ℕ → List ℕ
 unfolding digits
 bits_text n = digits 16 16 n
+
+-- it is the buffer that was lent, and as long
+abbrev pub SameBuffer : Text → Text → Type 0
+SameBuffer a b = (b.out.ghost_name ≡ a.out.ghost_name) × (length b.out.now ≡ length a.out.now)
 
 -- The buffer and the count after the bytes s were put at a place of a buffer: nothing is put where they do not fit whole.
 unfoldable pub put_in : List ℕ → ℕ → List ℕ → List ℕ

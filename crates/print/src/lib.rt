@@ -1,23 +1,21 @@
-// Answers printed: bytes, words and numbers put into a buffer that is lent.
+// Answers printed: bytes and numbers put into a buffer that is lent.
 #![tactic(auto)]
 
 ghost use Rattle.std.specs.Prelude.{◌≡◌, ◌<◌, ◌≤◌, length, drop};
 ghost use Rattle.std.specs.Float.{binary64};
 ghost use Rattle.std.specs.Float.Ieee.{to_bits};
-ghost use Rattle.print.specs.Print.{glyph_of, digits, without_zeros, decimal_text, bits_text, put_in, put_end};
+ghost use Rattle.fields.specs.Text.{part_of};
+ghost use Rattle.print.specs.Print.{glyph_of, digits, without_zeros, decimal_text, bits_text, put_in, put_end, SameBuffer};
 
-// Puts bytes into a buffer at a place, where they fit whole, and answers the place after them. There is no heap, so the caller lends the buffer.
-pub fn put(out: &mut [u8], at: usize, s: &[u8]) -> usize
-    ensures { (result ≡ put_end out.old at s.now) × (out.new ≡ put_in out.old at s.now) }
-{
-    if at > out.len() || s.len() > out.len() - at {
-        return at;
-    }
-    let end = at + s.len();
-    out[at..end].copy_from_slice(s);
-    end
+// A buffer that is lent, since there is no heap, and the place where the next bytes go. Nothing is asked of the place: past the buffer's end nothing fits.
+// That a put leaves the same buffer (`SameBuffer`) relates two states of it, so each function that puts says it: no field holds it (d).
+#[derive(Drop)]
+pub struct Text<'a> {
+    pub out: &'a mut [u8],
+    pub n: usize,
 }
 
+// A digit's byte. `char::from_digit` answers a char or none, which would be unwrapped and cut to a byte (d).
 #[tactic(auto, unfolding(crate::specs::Print::glyph_of))]
 fn glyph(d: u64) -> u8
     requires { d < 16 }
@@ -26,7 +24,7 @@ fn glyph(d: u64) -> u8
     if d < 10 { 48 + d as u8 } else { 87 + d as u8 }
 }
 
-// The last 20 digits of n: all of them in a base from 10 on.
+// The last 20 digits of n: all of them in a base from 10 on. By hand, since the library's `fmt` ensures nothing of what it puts.
 fn spelled(n: u64, base: u64) -> [u8; 20]
     requires { (1 < base) × (base ≤ 16) }
     ensures { result ≡ digits base 20 n }
@@ -56,21 +54,55 @@ fn zeros(s: &[u8]) -> usize
     last
 }
 
-// Puts a number in decimal.
-pub fn put_decimal(out: &mut [u8], at: usize, n: u64) -> usize
-    ensures { (result ≡ put_end out.old at (decimal_text n)) × (out.new ≡ put_in out.old at (decimal_text n)) }
-{
-    let d = spelled(n, 10);
-    let z = zeros(&d);
-    put(out, at, &d[z..])
-}
+impl<'a> Text<'a> {
+    // The bytes in front of the place.
+    pub fn bytes(&self) -> &[u8]
+        ensures { result.now ≡ part_of self.now.out.now 0 self.now.n }
+    {
+        fields::part(self.out, 0, self.n)
+    }
 
-// Puts a number as 16 hex digits.
-pub fn put_bits(out: &mut [u8], at: usize, n: u64) -> usize
-    ensures { (result ≡ put_end out.old at (bits_text n)) × (out.new ≡ put_in out.old at (bits_text n)) }
-{
-    let d = spelled(n, 16);
-    put(out, at, &d[4..])
+    // Puts bytes where they fit whole.
+    pub fn put(&mut self, s: &[u8])
+        ensures put { (self.new.n ≡ put_end self.old.out.now self.old.n s.now) × (self.new.out.now ≡ put_in self.old.out.now self.old.n s.now) }
+        ensures buffer { SameBuffer self.old self.new }
+    {
+        let at = self.n;
+        if at > self.out.len() || s.len() > self.out.len() - at {
+            return;
+        }
+        let end = at + s.len();
+        self.out[at..end].copy_from_slice(s);
+        self.n = end;
+    }
+
+    // Puts a number in decimal.
+    pub fn put_decimal(&mut self, n: u64)
+        ensures put { (self.new.n ≡ put_end self.old.out.now self.old.n (decimal_text n)) × (self.new.out.now ≡ put_in self.old.out.now self.old.n (decimal_text n)) }
+        ensures buffer { SameBuffer self.old self.new }
+    {
+        let d = spelled(n, 10);
+        let z = zeros(&d);
+        self.put(&d[z..]);
+    }
+
+    // Puts a byte as two hex digits.
+    pub fn put_byte(&mut self, b: u8)
+        ensures put { (self.new.n ≡ put_end self.old.out.now self.old.n (digits 16 2 b)) × (self.new.out.now ≡ put_in self.old.out.now self.old.n (digits 16 2 b)) }
+        ensures buffer { SameBuffer self.old self.new }
+    {
+        let n = u64::from(b);
+        self.put(&[glyph(n / 16), glyph(n % 16)]);
+    }
+
+    // Puts a number as 16 hex digits.
+    pub fn put_bits(&mut self, n: u64)
+        ensures put { (self.new.n ≡ put_end self.old.out.now self.old.n (bits_text n)) × (self.new.out.now ≡ put_in self.old.out.now self.old.n (bits_text n)) }
+        ensures buffer { SameBuffer self.old self.new }
+    {
+        let d = spelled(n, 16);
+        self.put(&d[4..]);
+    }
 }
 
 // A float's bits; those of a NaN are 0x7ff8000000000000.

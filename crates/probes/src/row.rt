@@ -18,7 +18,7 @@ fn judgment_number(j: Judgment) -> u32
     }
 }
 
-// The number of a judging of a row's 3,344 cells; 2 where there are not as many cells.
+// The number of a judging of a row's 3,344 cells; 2 where there are not as many cells, C's word for it (a).
 #[tactic(auto, unfolding(crate::specs::Judged::judged_number))]
 pub fn judged(
     cells: &[u32],

@@ -24,7 +24,7 @@ pub extern "C" fn probe_column(mm: i64) -> u32
     probes::column::probe_column(mm)
 }
 
-// The judging of a row's 3,344 cells, a tag of 0 standing for none; 2 where there are not as many cells.
+// The judging of a row's 3,344 cells, a tag of 0 standing for none, since C has no Option (a); 2 where there are not as many cells.
 #[unsafe(no_mangle)]
 pub extern "C" fn probe_judge(
     cells: &[u32],

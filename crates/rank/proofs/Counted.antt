@@ -5,13 +5,11 @@ use mathlib.Core.Bool.{Bool, true, false, cond, true≢false}
 use mathlib.Core.List.{List, [], ◌∷◌}
 use Prim.Native.Nat.{ℕ, zero, suc, ◌+◌, ◌≤◌, ◌<◌}
 use native.Mathlib.Nat.{not-suc-le-zero, le_of_suc-le-suc, le_trans, le_of_eq, le_of_lt, lt_of_lt_of_le}
-use native.Mathlib.Numerals.{add-one}
 use native.Mathlib.Omega.{arith}
 use borrow.Author.Tests.{le-ltb, ltb-true, ltb-false, eq-eqb, eqb-true}
 use lib.Dec.{T, ltb, eqb}
 use lib.Ieee.{Float, nan, inf, fin, binary64, of_bits, fits, div, lt}
-use lib.ListN.{length, get_or, drop}
-use lib.Seq.{drop-cons}
+use lib.ListN.{length, get_or}
 use Rattle.root.specs.Root.{units_of, plain}
 use Rattle.rank.specs.Rank.{insert, sorted, Good, AllGood, AtMost, Ascending, count}
 use Rattle.root.proofs.Units.{lt_units}
@@ -92,12 +90,6 @@ at_least x (y ∷ l) (suc k) g a s h b = by (lt y x) refl b (at_least x l k g a.
     by : (t : Bool) → lt y x ≡ t → cond t 1 0 + below x l ≤ suc k → (below x l ≤ k → units_of x ≤ units_of (get_or l k nan)) → units_of x ≤ units_of (get_or l k nan)
     by true e b f = f (omega arith)
     by false e b f = le_trans (no_less y x a.0 g e) (at_most y l k (le_of_suc-le-suc h) s.0)
-
--- ---- a turn of the loop of `below`: those counted so far and those of the rest are all
-pub rest : (l : List Float) (i n r : ℕ) (x : Float) → i < length l → n + below x (drop i l) ≡ below x l → r ≡ cond (lt (get_or l i nan) x) 1 0 → n + r + below x (drop (i + 1) l) ≡ below x l
-rest l i n r x h e t =
-    let c = ap (below x) (drop-cons l i nan h) ∙ ap (λ (j : ℕ). cond (lt (get_or l i nan) x) 1 0 + below x (drop j l)) (sym (add-one i)) in
-    omega (arith, c)
 
 -- ---- number k in ascending order of a list in any order
 abbrev pub ranked : List Float → ℕ → Float

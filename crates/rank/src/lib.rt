@@ -18,7 +18,7 @@ fn below(xs: &[f64], x: f64) -> usize
 }
 
 // Number k of xs, from 0, ascending: the largest that has at most k of them below it. Only those between two bounds are
-// tried, the largest so far that has and the smallest that has not, so that few are.
+// tried, the largest so far that has and the smallest that has not, so that few are. (d) xs has its own length, and k is none.
 pub fn nth(xs: &[f64], k: usize) -> f64
     requires { AllGood xs.now × (k < length xs.now) }
     ensures { result ≡ get_or (sorted xs.now) k nan }

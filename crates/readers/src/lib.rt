@@ -276,6 +276,7 @@ impl<'a> Reader<'a> {
 
     // ---- several fields
 
+    // Two real numbers. Not one with `links`: a link is a row number or `-` (d).
     #[tactic(auto, unfolding(crate::specs::Fields::two))]
     pub fn two(&mut self, first: Name, second: Name) -> Result<(f64, f64), Fault>
         ensures { left result self.new ≡ two first second self.old }
@@ -327,7 +328,7 @@ impl<'a> Reader<'a> {
         Ok(site)
     }
 
-    // A row's site.
+    // A row's site. Not one with `verdict`: what reads the parts would come as a closure with its contract (d).
     #[tactic(auto, unfolding(crate::specs::Fields::site))]
     fn site(&mut self) -> Result<Option<Site>, Fault>
         ensures { left result self.new ≡ site self.old }

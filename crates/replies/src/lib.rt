@@ -1,4 +1,5 @@
 // A key and the answers of the seven calls as numbers, since no enum crosses to C: four for a key, and nine for an answer, whose codes are include/siting.h's.
+// Each arm of a `match` puts what its case holds: no table would be plainer (d).
 #![tactic(auto)]
 
 ghost use Rattle.std.specs.Prelude.{◌≡◌};
@@ -31,11 +32,8 @@ pub fn put(answer: &mut [u64; 9], what: u64, value: u64, off: u64, by: u64)
 fn put_keyed(answer: &mut [u64; 9], what: u64, value: u64, pushed: u64, key: [u8; 32])
     ensures { answer.new ≡ keyed what value pushed key }
 {
-    let a = packing::key_word(key, 0);
-    let b = packing::key_word(key, 8);
-    let c = packing::key_word(key, 16);
-    let d = packing::key_word(key, 24);
-    *answer = [what, value, 0, 0, pushed, a, b, c, d];
+    let k = packing::key_words(key);
+    *answer = [what, value, 0, 0, pushed, k[0], k[1], k[2], k[3]];
 }
 
 fn put_judgment(answer: &mut [u64; 9], j: Judgment)
@@ -71,13 +69,12 @@ fn put_generation(answer: &mut [u64; 9], g: u32, pushed: Option<[u8; 32]>)
 pub fn tell(answer: &mut [u64; 9], a: Answer)
     ensures { answer.new ≡ answer_words (answer_is a) }
 {
-    let key = a.key;
-    match a.word {
-        Word::Refused(n) => put(answer, 0, n as u64, 0, 0),
-        Word::Generation(g) => put_generation(answer, g, a.pushed.then_some(key)),
-        Word::Judged(j) => put_judgment(answer, j),
-        Word::Says(s) => put_state(answer, s),
-        Word::Freed => put_keyed(answer, 4, 0, 0, key),
-        Word::Done => put(answer, 5, 0, 0, 0),
+    match a {
+        Ok(Word::Generation { generation, pushed }) => put_generation(answer, generation, pushed),
+        Ok(Word::Judged(j)) => put_judgment(answer, j),
+        Ok(Word::Says(s)) => put_state(answer, s),
+        Ok(Word::Freed(key)) => put_keyed(answer, 4, 0, 0, key),
+        Ok(Word::Done) => put(answer, 5, 0, 0, 0),
+        Err(r) => put(answer, 0, r.number() as u64, 0, 0),
     }
 }

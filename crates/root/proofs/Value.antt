@@ -1,7 +1,7 @@
 -- The float that is read from a bit pattern, and its root. Assumes nothing.
 use Rattle.std.proofs.Common.{◌≡◌, ℕ, zero, suc, ◌+◌, ◌*◌, ◌/◌, ◌%◌, ◌^◌, ◌<◌, ◌≤◌, Bool, true, false, cond, not, T, eqb, ltb, leb, sym, refl, ap, ◌∙◌, subst, lt_irrefl, mod-eq_of_lt, zero-lt-suc, add_comm, mul-pos, zero-mul, mul-one, mul-div_cancel, arith, eqb→eq, ltb→lt, leb→le, pow_pos}
 use lib.Dec.{nleb→lt, not_T, eqb-suc-zero}
-use lib.Ieee.{Float, nan, inf, fin, binary64, up, down, odd, fits, is_nan, of_fields, to_bits, of_bits, nan_bits, lt, eq}
+use lib.Ieee.{Float, nan, inf, fin, binary64, up, down, odd, fits, of_fields, to_bits, of_bits, nan_bits, lt, eq}
 use lib.Ieee.Fits.{down_pos}
 use lib.Ieee.Bits.{of_bits-to_bits, is_false, nan_bits_above}
 use lib.Ieee.Exact.{HasValue, odd_sign}
@@ -63,12 +63,6 @@ above_by x b false e r h = plain_read x b r (nleb→lt (2 ^ 63) b (subst (λ (s 
 
 pub above : (x : Float) → T (fits binary64 x) → lt plus_zero x ≡ true → Above x (to_bits binary64 x)
 above x f h = above_by x (to_bits binary64 x) (leb (2 ^ 63) (to_bits binary64 x)) refl (sym (of_bits-to_bits binary64 x f) ∙ of_bits_is (to_bits binary64 x)) h
-
-pub above_no_nan : (x : Float) → lt plus_zero x ≡ true → T (not (is_nan x))
-unfolding lt is_nan
-above_no_nan nan h = absurd (true_not_false (sym h))
-above_no_nan (inf s) h = tt
-above_no_nan (fin s m e) h = tt
 
 -- ---- the three kinds of pattern
 

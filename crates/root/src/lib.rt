@@ -10,14 +10,29 @@ ghost use Rattle.root.specs.Root.{isqrt, root_units, root, plus_zero};
 // The implied digit of a normal value: the lowest place of the exponent's field.
 const IMPLIED: u64 = 1 << 52;
 
+// The digits of a value above zero, the implied one too: 53, or 54 where a zero is put after them.
+#[derive(Clone, Copy)]
+struct Significand {
+    n: u64,
+    ghost low: { 2 ^ 52 ≤ n },
+    ghost high: { n < 2 ^ 54 },
+}
+
+// The pattern of a value that is normal and above zero.
+#[derive(Clone, Copy)]
+struct Normal {
+    bits: u64,
+    ghost above_subnormals: { 2 ^ 52 ≤ bits },
+    ghost below_infinity: { bits < 0x7ff0_0000_0000_0000 },
+}
+
 // The largest r with r * r <= p * 2 ^ 54. The root s of p has its upper 27 digits. The lower 27 are what is left of p, over
 // 2 * s, or one less.
-fn root54(p: u64) -> u64
-    requires { (2 ^ 52 ≤ p) × (p < 2 ^ 54) }
-    ensures { (result * result ≤ p * 2 ^ 54) × (p * 2 ^ 54 < (result + 1) * (result + 1)) × (result < 2 ^ 54) }
+fn root54(p: Significand) -> u64
+    ensures { (result * result ≤ p.n * 2 ^ 54) × (p.n * 2 ^ 54 < (result + 1) * (result + 1)) × (result < 2 ^ 54) }
 {
-    let s = p.isqrt();
-    let left = (p - s * s) * (1 << 27);
+    let s = p.n.isqrt();
+    let left = (p.n - s * s) * (1 << 27);
     let q = left / (s * 2);
     let u = left % (s * 2);
     let r = s * (1 << 27) + q;
@@ -25,9 +40,9 @@ fn root54(p: u64) -> u64
 }
 
 // The whole number nearest to the root of p * 2 ^ 52, which half of the root of p * 2 ^ 54 is, rounded up.
-fn nearest54(p: u64) -> u64
-    requires { (2 ^ 52 ≤ p) × (p < 2 ^ 54) }
-    ensures { result ≡ (isqrt (p * 2 ^ 54) + 1) / 2 }
+#[tactic(auto, using(crate::proofs::Guessed::nearest_of_lem))]
+fn nearest54(p: Significand) -> u64
+    ensures { result ≡ (isqrt (p.n * 2 ^ 54) + 1) / 2 }
 {
     (root54(p) + 1) / 2
 }
@@ -46,14 +61,13 @@ fn mantissa(g: f64) -> Option<u64>
 // The same from a guess g, or none where it is too far off. What its digits q = s * 2 ^ 26 + t leave, d = p * 2 ^ 52 - q * q, is
 // (w - 2 * s) * 2 ^ 26 - t * t for the w below. The nearest is q where -q < d <= q, and one more or one less where d is past that, but
 // not by 2 * q: a w below 5 * s sees to it. A wrapped difference is large, so each test passes only a true one.
-fn nearest_by(p: u64, g: f64) -> Option<u64>
-    requires { (2 ^ 52 ≤ p) × (p < 2 ^ 54) }
-    ensures { IfSome result (λ n. n ≡ (isqrt (p * 2 ^ 54) + 1) / 2) }
+fn nearest_by(p: Significand, g: f64) -> Option<u64>
+    ensures { IfSome result (λ n. n ≡ (isqrt (p.n * 2 ^ 54) + 1) / 2) }
 {
     let q = mantissa(g)?;
     let s = q / (1 << 26);
     let t = q % (1 << 26);
-    let left = p.wrapping_sub(s * s);
+    let left = p.n.wrapping_sub(s * s);
     if left >= 1 << 30 {
         return None;
     }
@@ -71,11 +85,11 @@ fn nearest_by(p: u64, g: f64) -> Option<u64>
 // Half of the pattern taken from a constant is 1 / x's root but for a factor, and h is from 1.5 to 1.6875. There the polynomial is
 // within 2 ^ -26 of half of 1 / h's root, so u, z times it, is near half of x's; its terms wait for each other as little as they can.
 // Heron's step doubles its digits; it ends above the root, and so a quarter of x is taken a little less.
-fn guess(x: f64, b: u64) -> f64
-    requires { b < 0x7ff0_0000_0000_0000 }
+#[tactic(auto, using(crate::proofs::Value::pattern_no_nan))]
+fn guess(x: f64, b: Normal) -> f64
     ensures { T (Ieee.fits binary64 result) }
 {
-    let y = f64::from_bits(0x5fec_0000_0000_0000 - b / 2);
+    let y = f64::from_bits(0x5fec_0000_0000_0000 - b.bits / 2);
     let z = x * y;
     let h = z * y;
     let k = h * h;
@@ -87,30 +101,34 @@ fn guess(x: f64, b: u64) -> f64
 }
 
 // The 53 digits of a value with the pattern b, the implied one too, and a zero after them where its exponent is odd.
-fn digits(b: u64) -> u64
-    requires { b < 0x7ff0_0000_0000_0000 }
-    ensures { (result ≡ (b % 2 ^ 52 + 2 ^ 52) * ((b / 2 ^ 52 + 51) % 2 + 1)) × (2 ^ 52 ≤ result) × (result < 2 ^ 54) }
+fn digits(b: Normal) -> Significand
+    ensures { result.n ≡ (b.bits % 2 ^ 52 + 2 ^ 52) * ((b.bits / 2 ^ 52 + 51) % 2 + 1) }
 {
-    let d = b % (IMPLIED * 2);
-    if d < IMPLIED { (d + IMPLIED) * 2 } else { d }
+    let d = b.bits % (IMPLIED * 2);
+    Significand {
+        n: if d < IMPLIED { (d + IMPLIED) * 2 } else { d },
+    }
 }
 
 // The root of the value with the pattern b, normal and above zero, from the whole number n nearest to the root of its digits.
-fn root_at(b: u64, n: u64) -> f64
-    requires { (2 ^ 52 ≤ b) × (b < 0x7ff0_0000_0000_0000) × (n ≡ (isqrt ((b % 2 ^ 52 + 2 ^ 52) * ((b / 2 ^ 52 + 51) % 2 + 1) * 2 ^ 54) + 1) / 2) }
-    ensures { result ≡ root (Ieee.of_bits binary64 b) }
+fn root_at(b: Normal, n: u64) -> f64
+    requires { n ≡ (isqrt ((b.bits % 2 ^ 52 + 2 ^ 52) * ((b.bits / 2 ^ 52 + 51) % 2 + 1) * 2 ^ 54) + 1) / 2 }
+    ensures { result ≡ root (Ieee.of_bits binary64 b.bits) }
 {
-    f64::from_bits((b / IMPLIED + 1021) / 2 * IMPLIED + n)
+    f64::from_bits((b.bits / IMPLIED + 1021) / 2 * IMPLIED + n)
 }
 
-// The bit pattern of the root of m * 2 ^ h / 2 ^ 52 of the smallest values, for an m of at most 53 digits that is not 0.
+// The bit pattern of the root of m * 2 ^ h / 2 ^ 52 of the smallest values, one or more of them, for an m of at most 53 digits.
 fn root_pattern(m: u64, h: u64) -> u64
-    requires { (0 < m) × (m < 2 ^ 53) × (h ≤ 2097) × (2 ^ 52 ≤ m * 2 ^ h) }
+    requires { (m < 2 ^ 53) × (h ≤ 2097) × (2 ^ 52 ≤ m * 2 ^ h) }
     ensures { ((u : ℕ) → m * 2 ^ h ≡ u * 2 ^ 52 → Ieee.of_bits binary64 result ≡ root_units u) × (result < 0x7ff0_0000_0000_0000) }
 {
     let free = m.leading_zeros() - 11;
     let k = h - free as u64;
-    (k / 2 + 485) * IMPLIED + nearest54((m << free) * (k % 2 + 1))
+    let p = Significand {
+        n: (m << free) * (k % 2 + 1),
+    };
+    (k / 2 + 485) * IMPLIED + nearest54(p)
 }
 
 // The square root of x, correctly rounded: IEEE 754's squareRoot.
@@ -126,6 +144,7 @@ pub fn sqrt(x: f64) -> f64
         if e == 2047 {
             return x;
         }
+        let b = Normal { bits: b };
         let p = digits(b);
         return root_at(
             b,
@@ -136,13 +155,13 @@ pub fn sqrt(x: f64) -> f64
 }
 
 // The pattern of a value that is normal and above zero.
-fn normal_bits(x: f64) -> Option<u64>
-    ensures { IfSome result (λ b. (2 ^ 52 ≤ b) × (b < 0x7ff0_0000_0000_0000) × (Ieee.of_bits binary64 b ≡ x)) }
+fn normal_bits(x: f64) -> Option<Normal>
+    ensures { IfSome result (λ b. Ieee.of_bits binary64 b.bits ≡ x) }
 {
     if x > 0.0 {
         let b = x.to_bits();
         if b.wrapping_sub(IMPLIED) < 0x7fe0_0000_0000_0000 {
-            return Some(b);
+            return Some(Normal { bits: b });
         }
     }
     None

@@ -13,7 +13,11 @@ use Rattle.table.specs.Rows.{Watch}
 use Rattle.table.specs.Questions.{question1, question2}
 use Rattle.receiver.specs.declared.Part.{Part}
 use Rattle.rows.specs.Read.{form}
-use Rattle.turns.specs.declared.Turned.TheVariants.{Refused, Named}
+use Rattle.std.specs.Prelude.{Ok, Err}
+use Rattle.table.specs.Refusals.{number_of}
+use Rattle.table.specs.declared.Refusal.{Refusal}
+use Rattle.table.specs.declared.Refusal.TheVariants as R
+use Rattle.turns.specs.declared.Turned.{Turned}
 use Rattle.turns.specs.Turn.{start_of, following, named, named_by, is_used, keys_of, holds, written, next_of, question8, refusal, acceptance, turn_on}
 use Rattle.print.specs.Print.{decimal_text}
 use Rattle.grammar.specs.declared.Line.{Line}
@@ -44,22 +48,22 @@ keys_length (suc n) list =
     let key = key_text (drop (32 * n) list) in
     omega (arith, keys_length n list, length-append (keys_text n list) (spell " " then key), length-append (spell " ") key, bytes_length (drop (32 * n) list) 32)
 
-named_length_in : (count next n : ℕ) (list : List ℕ) → count ≤ n → length (turned_text (Named count next) list) ≤ 45 + 65 * n
-named_length_in count next n list h =
-    let keys = keys_text count list in
-    let behind = decimal_text next then keys then spell "\n" in
+named_length_in : (t : Turned) (n : ℕ) (list : List ℕ) → t.count ≤ n → length (turned_text (Ok t) list) ≤ 45 + 65 * n
+named_length_in t n list h =
+    let keys = keys_text t.count list in
+    let behind = decimal_text t.next then keys then spell "\n" in
     omega (
       arith,
-      length-append (decimal_text count) (spell " " then behind),
-      length-append (decimal_text next) (keys then spell "\n"),
+      length-append (decimal_text t.count) (spell " " then behind),
+      length-append (decimal_text t.next) (keys then spell "\n"),
       length-append keys (spell "\n"),
-      decimal_length count,
-      decimal_length next,
-      keys_length count list,
+      decimal_length t.count,
+      decimal_length t.next,
+      keys_length t.count list,
     )
 
-refused_length_in : (q n : ℕ) (list : List ℕ) → length (turned_text (Refused q) list) ≤ 45 + 65 * n
-refused_length_in q n list = omega (arith, length-append (decimal_text q) (spell "\n"), decimal_length q)
+refused_length_in : (r : Refusal) (n : ℕ) (list : List ℕ) → length (turned_text (Err r) list) ≤ 45 + 65 * n
+refused_length_in r n list = omega (arith, length-append (decimal_text (number_of r)) (spell "\n"), decimal_length (number_of r))
 
 -- 8 is not asked in vain: no more rows are named than the list holds keys
 room_for : (C k : ℕ) (list : List ℕ) → question8 C k list ≡ true → k ≤ holds list
@@ -77,17 +81,17 @@ tick_length w next k list = one (question1 form w) where
   keys : List Key
   keys = keys_of form w (named_by C next k)
 
-  eight : (b : Bool) → question8 C k list ≡ b → length (tick_text (cond b (acceptance form w next k list) (refusal list 8))) ≤ 45 + 65 * holds list
-  eight true e = named_length_in (length keys) (next_of C next k) (holds list) (written keys list) (omega (arith, room_for C k list e, keys_few w (named_by C next k), named_length C (start_of C next) k))
-  eight false e = refused_length_in 8 (holds list) list
+  eight : (b : Bool) → question8 C k list ≡ b → length (tick_text (cond b (acceptance form w next k list) (refusal list R.Turn))) ≤ 45 + 65 * holds list
+  eight true e = named_length_in (record { count = length keys; next = next_of C next k }) (holds list) (written keys list) (omega (arith, room_for C k list e, keys_few w (named_by C next k), named_length C (start_of C next) k))
+  eight false e = refused_length_in R.Turn (holds list) list
 
-  two : (b : Bool) → length (tick_text (cond b (cond (question8 C k list) (acceptance form w next k list) (refusal list 8)) (refusal list 2))) ≤ 45 + 65 * holds list
+  two : (b : Bool) → length (tick_text (cond b (cond (question8 C k list) (acceptance form w next k list) (refusal list R.Turn)) (refusal list R.NotInOrder))) ≤ 45 + 65 * holds list
   two true = eight (question8 C k list) refl
-  two false = refused_length_in 2 (holds list) list
+  two false = refused_length_in R.NotInOrder (holds list) list
 
-  one : (b : Bool) → length (tick_text (cond b (cond (question2 form w) (cond (question8 C k list) (acceptance form w next k list) (refusal list 8)) (refusal list 2)) (refusal list 1))) ≤ 45 + 65 * holds list
+  one : (b : Bool) → length (tick_text (cond b (cond (question2 form w) (cond (question8 C k list) (acceptance form w next k list) (refusal list R.Turn)) (refusal list R.NotInOrder)) (refusal list R.Sizes))) ≤ 45 + 65 * holds list
   one true = two (question2 form w)
-  one false = refused_length_in 1 (holds list) list
+  one false = refused_length_in R.Sizes (holds list) list
 
 turn_length : (w : Watch Part) (next k room : ℕ) → length (turn_text w next k room) ≤ 4300
 unfolding turn_text
@@ -96,12 +100,4 @@ turn_length w next k room =
 
 pub line_length : (w : Watch Part) (l : Line) → length (line_text w l) ≤ 4300
 line_length w (line.Turn next k room) = turn_length w next k room
-line_length w (line.Watch c) = omega arith
-line_length w (line.Call c) = omega arith
-line_length w line.Digest = omega arith
-line_length w (line.Place a b c d) = omega arith
-line_length w (line.Same a b c d) = omega arith
-line_length w (line.Horizon a b) = omega arith
-line_length w (line.Bucket f) = omega arith
-line_length w (line.Bit a) = omega arith
-line_length w (line.Change m) = omega arith
+line_length w l = grind arith

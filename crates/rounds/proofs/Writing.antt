@@ -3,28 +3,31 @@ use mathlib.Core.Path.{◌≡◌, refl, sym, ap, ◌∙◌, subst}
 use Prim.Native.Nat.{ℕ, zero, suc, ◌+◌, ◌*◌, ◌≤◌}
 use native.Mathlib.Numerals.{add-one}
 use native.Mathlib.Omega.{arith}
-use lib.Dec.{ltb}
+use lib.Dec.{leb, ltb}
+use Rattle.fields.proofs.Lines.{tail}
 use mathlib.Core.List.{List, ◌∷◌}
-use lib.ListN.{length, take, drop, replicate}
+use lib.ListN.{length, take, drop, replicate, drop_of_length-le}
 use lib.Seq.{length-take-le}
-use borrow.Author.Tests.{ltb-true}
-use Rattle.fields.specs.Text.{spell}
+use borrow.Author.Tests.{ltb-true, leb-false, le-leb}
+use Rattle.fields.specs.Text.{spell, part_of}
 use Rattle.table.specs.Rows.{Watch}
 use Rattle.table.proofs.Tests.{by_bool}
 use Rattle.receiver.specs.declared.Part.{Part}
+use Rattle.print.specs.declared.Text.{Text}
 use Rattle.print.specs.Print.{decimal_text}
 use Rattle.flat.specs.Words.{words_of_row}
 use Rattle.flat.proofs.Rows.{starts_at}
 use Rattle.rows.specs.Read.{form, watch_is}
 use Rattle.flat.specs.Table.{rows_of}
 use Rattle.turns.specs.declared.Turned.{Turned}
-use Rattle.turns.specs.declared.Turned.TheVariants.{Refused, Named}
+use Rattle.std.specs.Prelude.{Result, Ok}
+use Rattle.table.specs.declared.Refusal.{Refusal}
 use Rattle.turns.specs.Turn.{turn_on}
 use Rattle.lending.specs.Lendings.{Within, lent_to}
 use Rattle.lending.specs.declared.Size.{Size}
 use Rattle.answers.specs.Words.{◌then◌}
-use Rattle.answers.specs.Answers.{key_text, Wrote}
-use Rattle.answers.proofs.Writing.{wrote_none, wrote_then, wrote_both, wrote_is}
+use Rattle.answers.specs.Answers.{key_text, Adds}
+use Rattle.answers.proofs.Writing.{adds_none, adds_then, adds_both, adds_is}
 use Rattle.rounds.specs.Rounds.{keys_text, turned_text, tick_text, served, turn_text}
 
 -- THE ROWS that are lent
@@ -32,33 +35,36 @@ pub rows_front : (z : Size) (xs ys : List ℕ) (a : ℕ) → Within z xs ys → 
 rows_front z xs ys a h e = length-take-le a xs (subst (λ (n : ℕ). n ≤ length xs) (starts_at z.rows ∙ sym e) h.0)
 
 -- THE TICK on the first rows and cells of those that are lent
-pub ticked : (z : Size) (xs ys ws list list₁ : List ℕ) (a next k : ℕ) (t : Turned) → a ≡ words_of_row * z.rows
+pub ticked : (z : Size) (xs ys ws list list₁ : List ℕ) (a next k : ℕ) (t : Result Turned Refusal) → a ≡ words_of_row * z.rows
     → record { answer = t; list = list₁ } ≡ turn_on form (watch_is (rows_of (take a xs)) (take z.cells ys) ws) next k list
     → record { answer = t; list = list₁ } ≡ turn_on form (lent_to z xs ys ws) next k list
 ticked z xs ys ws list list₁ a next k t ea e =
     e ∙ ap (λ (i : ℕ). turn_on form (watch_is (rows_of (take i xs)) (take z.cells ys) ws) next k list) (ea ∙ sym (starts_at z.rows))
 
 -- KEYS
-pub keys_none : (out list : List ℕ) (n : ℕ) → Wrote out n (keys_text 0 list) out n
+-- what is left of a list from a place on, past its end too
+rest_is : (s : List ℕ) (a : ℕ) → part_of s a (length s) ≡ drop a s
+unfolding part_of
+rest_is s a = by_bool (leb a (length s)) (λ p. rw (p, le-leb (length s) (length s) (omega arith)) (tail s a)) (λ p. rw p (sym (drop_of_length-le s {i = a} (omega (arith, leb-false a (length s) p)))))
+
+pub keys_none : (a : Text) (list : List ℕ) → Adds a (keys_text 0 list) a
 unfolding keys_text
-keys_none out list n = wrote_none out n
+keys_none a list = adds_none a
 
-pub keys_on : (out out1 out2 out3 list : List ℕ) (n m p r i : ℕ) → Wrote out n (keys_text i list) out1 m → Wrote out1 m (spell " ") out2 p → Wrote out2 p (key_text (drop (32 * i) list)) out3 r → Wrote out n (keys_text (i + 1) list) out3 r
+pub keys_on : (a b c d : Text) (list key : List ℕ) (i : ℕ) → Adds a (keys_text i list) b → Adds b (spell " ") c → key ≡ part_of list (32 * i) (length list) → Adds c (key_text key) d → Adds a (keys_text (i + 1) list) d
 unfolding keys_text
-keys_on out out1 out2 out3 list n m p r i w v u =
-    rw (add-one i)
-    (wrote_then out (keys_text i list) (spell " " then key_text (drop (32 * i) list)) out1 out3 n m r w (wrote_then out1 (spell " ") (key_text (drop (32 * i) list)) out2 out3 m p r v u))
+keys_on a b c d list key i w v e u =
+    let rest = drop (32 * i) list in
+    let k : key ≡ rest = e ∙ rest_is list (32 * i) in
+    rw (add-one i) (adds_then a b d (keys_text i list) (spell " " then key_text rest) w (adds_then b c d (spell " ") (key_text rest) v (rw k at u)))
 
--- THE ANSWERS
-pub refused_put : (out out1 out2 list : List ℕ) (n m r q : ℕ) → Wrote out n (spell "no " then decimal_text q) out1 m → Wrote out1 m (spell "\n") out2 r → Wrote out n (turned_text (Refused q) list) out2 r
-refused_put out out1 out2 list n m r q w v = wrote_both out (spell "no ") (decimal_text q) (spell "\n") out1 out2 n m r w v
-
-pub named_put : (out out1 out2 out3 out4 list : List ℕ) (n m p q r count next : ℕ) → Wrote out n (spell "ok " then decimal_text count) out1 m → Wrote out1 m (spell " " then decimal_text next) out2 p → Wrote out2 p (keys_text count list) out3 q → Wrote out3 q (spell "\n") out4 r
-    → Wrote out n (turned_text (Named count next) list) out4 r
-named_put out out1 out2 out3 out4 list n m p q r count next w1 w2 w3 w4 =
-    let keys = keys_text count list in
-    wrote_both out (spell "ok ") (decimal_text count) (spell " " then decimal_text next then keys then spell "\n") out1 out4 n m r w1
-    (wrote_both out1 (spell " ") (decimal_text next) (keys then spell "\n") out2 out4 m p r w2 (wrote_then out2 keys (spell "\n") out3 out4 p q r w3 w4))
+-- THE ANSWER that names keys
+pub named_put : (a b c d e : Text) (list : List ℕ) (t : Turned) → Adds a (spell "ok " then decimal_text t.count) b → Adds b (spell " " then decimal_text t.next) c → Adds c (keys_text t.count list) d → Adds d (spell "\n") e
+    → Adds a (turned_text (Ok t) list) e
+named_put a b c d e list t w1 w2 w3 w4 =
+    let keys = keys_text t.count list in
+    adds_both a b e (spell "ok ") (decimal_text t.count) (spell " " then decimal_text t.next then keys then spell "\n") w1
+    (adds_both b c e (spell " ") (decimal_text t.next) (keys then spell "\n") w2 (adds_then c d e keys (spell "\n") w3 w4))
 
 -- THE LINE
 pub served_few : (room : ℕ) → served room ≤ 64
@@ -73,8 +79,8 @@ module _ (room m : ℕ) (e : m ≡ 32 * served room) where
   pub list_fits : m ≤ 2048
   list_fits = omega (arith, served_few room)
 
-  pub turn_put : (out out1 list₁ : List ℕ) (n r : ℕ) (t : Turned) (w : Watch Part) (next k : ℕ) → record { answer = t; list = list₁ } ≡ turn_on form w next k (take m (replicate 2048 0)) → Wrote out n (turned_text t list₁) out1 r → Wrote out n (turn_text w next k room) out1 r
+  pub turn_put : (a b : Text) (list₁ : List ℕ) (t : Result Turned Refusal) (w : Watch Part) (next k : ℕ) → record { answer = t; list = list₁ } ≡ turn_on form w next k (take m (replicate 2048 0)) → Adds a (turned_text t list₁) b → Adds a (turn_text w next k room) b
   unfolding turn_text
-  turn_put out out1 list₁ n r t w next k s v =
-      wrote_is out (turned_text t list₁) (tick_text (turn_on form w next k (replicate (32 * served room) 0))) out1 n r
+  turn_put a b list₁ t w next k s v =
+      adds_is a b (turned_text t list₁) (tick_text (turn_on form w next k (replicate (32 * served room) 0)))
       (ap tick_text (s ∙ ap (turn_on form w next k) (zeros m 2048 list_fits ∙ ap (λ (x : ℕ). replicate x 0) e))) v

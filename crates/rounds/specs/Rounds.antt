@@ -1,17 +1,17 @@
 -- The line `turn NEXT K ROOM` (02, Item 1): a tick on the watch that is lent, with a list of ROOM keys, all zeros; and its answer as text. Definitions only.
-use Rattle.std.specs.Prelude.{ℕ, zero, suc, ◌*◌, cond, List, [], ltb, drop, replicate}
+use Rattle.std.specs.Prelude.{ℕ, zero, suc, ◌*◌, cond, List, [], ltb, drop, replicate, Result, Ok, Err}
 use Rattle.fields.specs.Text.{spell}
 use Rattle.table.specs.Rows.{Watch}
 use Rattle.receiver.specs.declared.Part.{Part}
 use Rattle.rows.specs.Read.{form}
 use Rattle.turns.specs.declared.Turned.{Turned}
-use Rattle.turns.specs.declared.Turned.TheVariants.{Refused, Named}
+use Rattle.table.specs.declared.Refusal.{Refusal}
 use Rattle.turns.specs.Turn.{Tick, turn_on}
 use Rattle.print.specs.Print.{decimal_text}
 use Rattle.grammar.specs.declared.Line.{Line}
 use Rattle.grammar.specs.declared.Line.TheVariants as line
 use Rattle.answers.specs.Words.{◌then◌}
-use Rattle.answers.specs.Answers.{key_text}
+use Rattle.answers.specs.Answers.{key_text, no_text}
 
 -- the first n keys of a list, a space before each
 unfoldable pub keys_text : ℕ → List ℕ → List ℕ
@@ -19,9 +19,9 @@ keys_text zero list = []
 keys_text (suc n) list = keys_text n list then spell " " then key_text (drop (32 * n) list)
 
 -- `no N`, or `ok COUNT NEXT KEY KEY ..`
-abbrev pub turned_text : Turned → List ℕ → List ℕ
-turned_text (Refused n) list = spell "no " then decimal_text n then spell "\n"
-turned_text (Named count next) list = spell "ok " then decimal_text count then spell " " then decimal_text next then keys_text count list then spell "\n"
+abbrev pub turned_text : Result Turned Refusal → List ℕ → List ℕ
+turned_text (Err r) list = no_text r
+turned_text (Ok t) list = spell "ok " then decimal_text t.count then spell " " then decimal_text t.next then keys_text t.count list then spell "\n"
 
 abbrev pub tick_text : Tick → List ℕ
 tick_text t = turned_text t.answer t.list

@@ -26,9 +26,6 @@ use Rattle.scans.specs.declared.Ends.{Ends}
 use Rattle.scans.specs.declared.Key.{Key}
 use Rattle.scans.specs.Ends.{linked_ends, with_free}
 
-abbrev pub rows_is : List Row → List (W.Row Part)
-rows_is xs = map row_is xs
-
 abbrev pub chain_is : List Row → Ends → Chain Part
 chain_is xs e = record { rows = map row_is xs; ends = ends_of e }
 

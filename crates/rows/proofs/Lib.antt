@@ -1,7 +1,6 @@
 -- Laws that the proofs of more than one function, or of other crates, cite.
-pub mod Laws
 pub mod Scans
-pub mod Tables
 pub mod Chains
 pub mod Looks
 pub mod Making
+pub mod Passed

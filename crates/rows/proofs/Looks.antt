@@ -2,7 +2,7 @@
 --     walked           a scan comes to what the walk along the chain finds          found       one that came through has the first row with the key
 --     sound_all, unseen    it stays sound where all rows are, and a row that fails is none that a sound scan saw
 --     looks            what is made of both scans is `looked_in`
-use Rattle.std.specs.Prelude.{Option, None, Some}
+use Rattle.std.specs.Prelude.{Option, None, Some, Result, Err}
 use mathlib.Core.Path.{◌≡◌, refl, sym, ◌∙◌, ap, ap₂, subst}
 use Prim.Native.Nat.{ℕ, zero, suc, ◌<◌, ◌≤◌, ◌-◌, ◌+◌, ◌*◌}
 use native.Mathlib.Omega.{arith}
@@ -16,7 +16,7 @@ use Rattle.table.specs.Rows as W
 use Rattle.table.specs.Rows.{NONE, Watch, Form, row_at}
 use Rattle.table.specs.Questions.{most, question1, question2, find_row, all_sound}
 use Rattle.table.specs.Walk.{Walked, broken, ended, walk_used, walk_free, chains_fit, well_formed}
-use Rattle.table.proofs.Tests.{by_bool, clash, and_1, and_2, eqb_yes, eqb_no}
+use Rattle.table.proofs.Tests.{by_bool, clash, and_1, and_2, eqb_no}
 use Rattle.table.proofs.Numbers.{first, Apart, append_apart, below_none}
 use Rattle.table.proofs.Linked.{Freed}
 use Rattle.table.proofs.Chains.{linked_freed}
@@ -26,25 +26,36 @@ use Rattle.receiver.specs.declared.Part.{Part}
 use Rattle.heard.specs.Heard.{width}
 use Rattle.receiver.specs.Calls.{unmade_part}
 use Rattle.rows.specs.declared.Row.{Row}
-use Rattle.rows.specs.Read.{form, fits, row_is, watch_of, found_is, Looked}
+use Rattle.rows.specs.Read.{form, fits, row_is, watch_of, Looked}
 use Rattle.rows.specs.Links.{blank}
 use Rattle.rows.specs.Search.{scan_for, scanned, sizes_of}
 use Rattle.rows.proofs.Chains.{rows_long_lem, row_is_lem}
 use Rattle.scans.specs.declared.Ends.{Ends}
 use Rattle.scans.specs.declared.Key.{Key}
 use Rattle.scans.specs.declared.Cursor.{Cursor}
-use Rattle.scans.specs.declared.Look.{Look}
-use Rattle.scans.specs.declared.Look.TheVariants as L
-use Rattle.scans.specs.Scan.{start_of, back_fits, first_found, came_through, chains_of, found_at, look_of}
+use Rattle.scans.specs.Scan.{start_of, back_fits, first_found, came_through, chains_of, row_or_no, look_of}
+use Rattle.table.specs.declared.Refusal.{Refusal}
+use Rattle.table.specs.declared.Refusal.TheVariants as R
 
-abbrev state : ℕ → ℕ → ℕ → Bool → Bool → Bool → ℕ → List ℕ → Cursor
+abbrev state : ℕ → ℕ → ℕ → Bool → Bool → Bool → Option ℕ → List ℕ → Cursor
 state at p l b f s v k = record { at = at; prev = p; left = l; back = b; fits = f; sound = s; found = v; key = k }
 
 abbrev ended_by : ℕ → Cursor → Walked
 ended_by n s = cond (came_through s) (ended (n - s.left) s.prev) broken
 
-abbrev option_of : ℕ → Option ℕ
-option_of v = cond (eqb v NONE) None (Some v)
+-- the first that is found
+abbrev or_found : Option ℕ → Option ℕ → Option ℕ
+or_found (Some i) o = Some i
+or_found None o = o
+
+or_none : (v : Option ℕ) → v ≡ or_found v None
+or_none (Some i) = refl
+or_none None = refl
+
+or_first : (v o : Option ℕ) (at : ℕ) (t : Bool) → or_found (first_found v at t) o ≡ or_found v (cond t (Some at) o)
+or_first (Some i) o at t = refl
+or_first None o at true = refl
+or_first None o at false = refl
 
 nz : (j : ℕ) → eqb (suc j) 0 ≡ false
 nz j = eqb_no (suc j) 0 (λ e. omega (arith, e))
@@ -59,18 +70,18 @@ module _ (xs : List Row) (small : length xs ≤ NONE) where
   abbrev row : ℕ → Row
   row i = get_or xs i blank
 
-  abbrev next : ℕ → ℕ → ℕ → Bool → Bool → ℕ → List ℕ → Cursor
+  abbrev next : ℕ → ℕ → ℕ → Bool → Bool → Option ℕ → List ℕ → Cursor
   next at p j b s v k = state (row at).next at j b (back_fits b (row at).prev p) (s && fits (row at).part) (first_found v at (same k (row at).key)) k
 
-  goes : (j at p : ℕ) (b s : Bool) (v : ℕ) (k : List ℕ) → ltb at (length xs) ≡ true → scan_for (suc j) xs (state at p (suc j) b true s v k) ≡ scan_for j xs (next at p j b s v k)
+  goes : (j at p : ℕ) (b s : Bool) (v : Option ℕ) (k : List ℕ) → ltb at (length xs) ≡ true → scan_for (suc j) xs (state at p (suc j) b true s v k) ≡ scan_for j xs (next at p j b s v k)
   unfolding scan_for
   goes j at p b s v k t = rw (nz j, t, one_less j)
 
-  stays : (j at p : ℕ) (b s : Bool) (v : ℕ) (k : List ℕ) → ltb at (length xs) ≡ false → scan_for (suc j) xs (state at p (suc j) b true s v k) ≡ state at p (suc j) b true s v k
+  stays : (j at p : ℕ) (b s : Bool) (v : Option ℕ) (k : List ℕ) → ltb at (length xs) ≡ false → scan_for (suc j) xs (state at p (suc j) b true s v k) ≡ state at p (suc j) b true s v k
   unfolding scan_for
   stays j at p b s v k t = rw (nz j, t)
 
-  lost : (j at p l : ℕ) (b s : Bool) (v : ℕ) (k : List ℕ) → scan_for j xs (state at p l b false s v k) ≡ state at p l b false s v k
+  lost : (j at p l : ℕ) (b s : Bool) (v : Option ℕ) (k : List ℕ) → scan_for j xs (state at p l b false s v k) ≡ state at p l b false s v k
   unfolding scan_for
   lost zero at p l b s v k = refl
   lost (suc j) at p l b s v k = refl
@@ -95,7 +106,7 @@ module _ (xs : List Row) (small : length xs ≤ NONE) where
   any_free (suc f) n p at =
       by_bool (ltb at (length rows)) (λ t. rw t (ap (λ (x : Walked). cond (eqb at NONE) (ended n p) x) (any_free f (suc n) at (row_at unmade_part rows at).next))) (λ t. rw t)
 
-  walked : (n k at p : ℕ) (b s : Bool) (v : ℕ) (key : List ℕ) → k ≤ n → ended_by n (scan_for k xs (state at p k b true s v key)) ≡ walk_any b k (n - k) p at
+  walked : (n k at p : ℕ) (b s : Bool) (v : Option ℕ) (key : List ℕ) → k ≤ n → ended_by n (scan_for k xs (state at p k b true s v key)) ≡ walk_any b k (n - k) p at
   unfolding scan_for
   walked n zero at p b s v key h = refl
   walked n (suc j) at p b s v key h =
@@ -110,27 +121,23 @@ module _ (xs : List Row) (small : length xs ≤ NONE) where
       more = omega arith
 
   -- THE SEARCH
-  found : (k at p : ℕ) (b s : Bool) (v : ℕ) (key : List ℕ) → came_through (scan_for k xs (state at p k b true s v key)) ≡ true
-      → option_of (scan_for k xs (state at p k b true s v key)).found ≡ cond (eqb v NONE) (find_row unmade_part rows k key at) (Some v)
+  found : (k at p : ℕ) (b s : Bool) (v : Option ℕ) (key : List ℕ) → came_through (scan_for k xs (state at p k b true s v key)) ≡ true
+      → (scan_for k xs (state at p k b true s v key)).found ≡ or_found v (find_row unmade_part rows k key at)
   unfolding scan_for
-  found zero at p b s v key c = refl
+  found zero at p b s v key c = or_none v
   found (suc j) at p b s v key c =
       by_bool (ltb at (length xs))
-      (λ t. ap (λ (x : Cursor). option_of x.found) (goes j at p b s v key t) ∙ by_bool (back_fits b (row at).prev p)
+      (λ t. ap (λ (x : Cursor). x.found) (goes j at p b s v key t) ∙ by_bool (back_fits b (row at).prev p)
       (λ q. rw q (found j (row at).next at b (s && fits (row at).part) (first_found v at (same key (row at).key)) key (rw q at (subst (λ (x : Cursor). came_through x ≡ true) (goes j at p b s v key t) c)))
-      ∙ onwards (find_row unmade_part rows j key (row at).next) (same key (row at).key) (is_row at t)
+      ∙ or_first v (find_row unmade_part rows j key (row at).next) at (same key (row at).key)
       ∙ sym (rw (is_row at t, row_is_lem xs at)))
       (λ q. clash (subst (λ (x : Cursor). came_through x ≡ true) (lost j (row at).next at j b (s && fits (row at).part) (first_found v at (same key (row at).key)) key) (rw q at (subst (λ (x : Cursor). came_through x ≡ true) (goes j at p b s v key t) c))) refl))
-      (λ t. ap (λ (x : Cursor). option_of x.found) (stays j at p b s v key t)
-      ∙ sym (rw (subst (λ (x : Cursor). came_through x ≡ true) (stays j at p b s v key t) c)))
-    where
-      onwards : (o : Option ℕ) (t : Bool) → eqb at NONE ≡ false → cond (eqb (first_found v at t) NONE) o (Some (first_found v at t)) ≡ cond (eqb v NONE) (cond t (Some at) o) (Some v)
-      onwards o true e = by_bool (eqb v NONE) (λ y. rw (y, e)) (λ y. rw (y, y))
-      onwards o false e = by_bool (eqb v NONE) (λ y. rw (y, eqb_yes NONE NONE refl)) (λ y. rw (y, y))
+      (λ t. ap (λ (x : Cursor). x.found) (stays j at p b s v key t)
+      ∙ rw (subst (λ (x : Cursor). came_through x ≡ true) (stays j at p b s v key t) c) (or_none v))
 
   -- THE TEST OF EVERY ROW
   -- where all rows pass, so does what a scan sees
-  sound_all : ((j : ℕ) → j < length rows → fits (row_at unmade_part rows j).part ≡ true) → (k at p : ℕ) (b : Bool) (v : ℕ) (key : List ℕ) → (scan_for k xs (state at p k b true true v key)).sound ≡ true
+  sound_all : ((j : ℕ) → j < length rows → fits (row_at unmade_part rows j).part ≡ true) → (k at p : ℕ) (b : Bool) (v : Option ℕ) (key : List ℕ) → (scan_for k xs (state at p k b true true v key)).sound ≡ true
   unfolding scan_for
   sound_all a zero at p b v key = refl
   sound_all a (suc j) at p b v key =
@@ -144,7 +151,7 @@ module _ (xs : List Row) (small : length xs ≤ NONE) where
       here t = ap (λ (r : W.Row Part). fits r.part) (sym (row_is_lem xs at)) ∙ a at (ltb-true at (length rows) (within at true t))
 
   -- what a scan has seen to fail stays seen
-  sound_once : (k at p : ℕ) (b s : Bool) (v : ℕ) (key : List ℕ) → (scan_for k xs (state at p k b true s v key)).sound ≡ true → s ≡ true
+  sound_once : (k at p : ℕ) (b s : Bool) (v : Option ℕ) (key : List ℕ) → (scan_for k xs (state at p k b true s v key)).sound ≡ true → s ≡ true
   unfolding scan_for
   sound_once zero at p b s v key h = h
   sound_once (suc j) at p b s v key h =
@@ -155,7 +162,7 @@ module _ (xs : List Row) (small : length xs ≤ NONE) where
       (λ t. subst (λ (x : Cursor). x.sound ≡ true) (stays j at p b s v key t) h)
 
   -- a row that fails is none of those that a scan saw pass
-  unseen : (i : ℕ) → fits (row_at unmade_part rows i).part ≡ false → (l : List ℕ) (k at p : ℕ) (b s : Bool) (v : ℕ) (key : List ℕ) → Freed unmade_part rows l → at ≡ first l NONE
+  unseen : (i : ℕ) → fits (row_at unmade_part rows i).part ≡ false → (l : List ℕ) (k at p : ℕ) (b s : Bool) (v : Option ℕ) (key : List ℕ) → Freed unmade_part rows l → at ≡ first l NONE
       → came_through (scan_for k xs (state at p k b true s v key)) ≡ true → (scan_for k xs (state at p k b true s v key)).sound ≡ true → Apart i l
   unfolding scan_for
   unseen i bad [] k at p b s v key f e c h = tt
@@ -190,9 +197,6 @@ all_pass : (rows : List (W.Row Part)) → all_sound (λ (p : Part). true) rows �
 all_pass [] = refl
 all_pass (r ∷ rows) = all_pass rows
 
-found_at_lem : (v : ℕ) → found_at v ≡ found_is (option_of v)
-found_at_lem v = by_bool (eqb v NONE) (λ p. rw p) (λ p. rw p)
-
 -- nothing asked of the parts
 abbrev chains_only : Form Part
 chains_only = record { unmade = unmade_part; sound = λ (p : Part). true; width = width; blank = form.blank }
@@ -202,7 +206,7 @@ module _ (xs : List Row) (small : length xs ≤ NONE) (ys : List ℕ) (e : Ends)
   w = watch_of xs ys e
 
   abbrev scan_of : ℕ → Bool → Cursor
-  scan_of at b = scan_for (length xs) xs (state at NONE (length xs) b true true NONE key)
+  scan_of at b = scan_for (length xs) xs (state at NONE (length xs) b true true None key)
 
   abbrev used : Cursor
   used = scan_of e.head true
@@ -214,7 +218,7 @@ module _ (xs : List Row) (small : length xs ≤ NONE) (ys : List ℕ) (e : Ends)
   chained n a b = (came_through a && came_through b) && (eqb (n - a.left + (n - b.left)) n && (eqb a.prev e.tail && (eqb (n - a.left) 0 || (eqb (n - b.left) 0 || not (eqb a.prev b.prev)))))
 
   any_walk : (at : ℕ) (b : Bool) → ended_by (length xs) (scan_of at b) ≡ walk_any xs small b (length (map row_is xs)) 0 NONE at
-  any_walk at b = let z : length xs - length xs ≡ 0 = omega arith in walked xs small (length xs) (length xs) at NONE b true NONE key (omega arith) ∙ ap₂ {C = Walked} (λ k n. walk_any xs small b k n NONE at) (sym (rows_long_lem xs)) z
+  any_walk at b = let z : length xs - length xs ≡ 0 = omega arith in walked xs small (length xs) (length xs) at NONE b true None key (omega arith) ∙ ap₂ {C = Walked} (λ k n. walk_any xs small b k n NONE at) (sym (rows_long_lem xs)) z
 
   chains : chains_fit (length (map row_is xs)) e.tail (walk_used unmade_part (map row_is xs) (length (map row_is xs)) 0 NONE e.head) (walk_free unmade_part (map row_is xs) (length (map row_is xs)) 0 NONE e.free) ≡ chained (length xs) used free
   chains =
@@ -237,12 +241,12 @@ module _ (xs : List Row) (small : length xs ≤ NONE) (ys : List ℕ) (e : Ends)
       let f₁ = linked_freed unmade_part (map row_is xs) small' NONE q.used q.chained.linked in
       by_bool (all_sound fits (map row_is xs))
       (λ s. let a = sound_rows unmade_part fits (map row_is xs) s in
-      rw (s, sound_all xs small a (length xs) e.head NONE true NONE key, sound_all xs small a (length xs) e.free NONE false NONE key))
+      rw (s, sound_all xs small a (length xs) e.head NONE true None key, sound_all xs small a (length xs) e.free NONE false None key))
       (λ s. by_bool (used.sound && free.sound)
       (λ h. clash (rows_sound unmade_part fits (map row_is xs) (λ j n. by_bool (fits (row_at unmade_part (map row_is xs) j).part) (λ y. y)
       (λ bad. absurd (q.every_row j n (append_apart j q.used q.free
-      (unseen xs small j bad q.used (length xs) e.head NONE true true NONE key f₁ q.chained.head_is (and_1 (came_through used) (came_through free) came) (and_1 used.sound free.sound h))
-      (unseen xs small j bad q.free (length xs) e.free NONE false true NONE key q.chained.freed q.chained.free_is (and_2 (came_through used) (came_through free) came) (and_2 used.sound free.sound h))))))) s)
+      (unseen xs small j bad q.used (length xs) e.head NONE true true None key f₁ q.chained.head_is (and_1 (came_through used) (came_through free) came) (and_1 used.sound free.sound h))
+      (unseen xs small j bad q.free (length xs) e.free NONE false true None key q.chained.freed q.chained.free_is (and_2 (came_through used) (came_through free) came) (and_2 used.sound free.sound h))))))) s)
       (λ h. s ∙ sym h))
 
   -- question 2 is what both scans come to
@@ -253,16 +257,16 @@ module _ (xs : List Row) (small : length xs ≤ NONE) (ys : List ℕ) (e : Ends)
       ∙ ap (λ (t : Bool). t && all_sound fits (map row_is xs)) chains ∙ glue (chained (length xs) used free) (all_sound fits (map row_is xs)) _ sounds
       ∙ sym (regroup (came_through used && came_through free) _ _)
 
-  finds : chains_of (length xs) e.tail used free ≡ true → found_at used.found ≡ found_is (find_row unmade_part (map row_is xs) (length (map row_is xs)) key e.head)
+  finds : chains_of (length xs) e.tail used free ≡ true → row_or_no used.found ≡ row_or_no (find_row unmade_part (map row_is xs) (length (map row_is xs)) key e.head)
   finds c =
       let came = and_1 (came_through used) (came_through free) (and_1 (came_through used && came_through free) _ c) in
-      found_at_lem used.found ∙ ap found_is (rw (eqb_yes NONE NONE refl) at (found xs small (length xs) e.head NONE true true NONE key came) ∙ ap (λ (n : ℕ). find_row unmade_part (map row_is xs) n key e.head) (sym (rows_long_lem xs)))
+      ap row_or_no (found xs small (length xs) e.head NONE true true None key came ∙ ap (λ (n : ℕ). find_row unmade_part (map row_is xs) n key e.head) (sym (rows_long_lem xs)))
 
-glue_look : (t : Bool) (x y z : Look) → (t ≡ true → x ≡ y) → cond t x z ≡ cond t y z
+glue_look : (t : Bool) (x y z : Result ℕ Refusal) → (t ≡ true → x ≡ y) → cond t x z ≡ cond t y z
 glue_look true x y z h = h refl
 glue_look false x y z h = refl
 
-pub looks : (xs : List Row) (m : ℕ) (e : Ends) (k : Key) (t : Bool) (a b : Cursor) (r : Look) → t ≡ sizes_of (length xs) m → t ≡ true
+pub looks : (xs : List Row) (m : ℕ) (e : Ends) (k : Key) (t : Bool) (a b : Cursor) (r : Result ℕ Refusal) → t ≡ sizes_of (length xs) m → t ≡ true
     → a ≡ scanned xs (start_of (length xs) e.head true k) → b ≡ scanned xs (start_of (length xs) e.free false k) → r ≡ look_of (length xs) e.tail a b → Looked xs m e k r
 unfolding question1 scanned
 looks xs m e k t a b r es y ea eb er ys l =
@@ -270,10 +274,10 @@ looks xs m e k t a b r es y ea eb er ys l =
     let n : length xs ≤ most = leb-true (length xs) most (and_1 (leb (length xs) most) (eqb m (width * length xs)) (and_2 (leb 1 (length xs)) (leb (length xs) most && eqb m (width * length xs)) s)) in
     let small : length xs ≤ NONE = omega (arith, n, most_none) in
     let one : question1 form (watch_of xs ys e) ≡ true = rw (rows_long_lem xs, l) s in
-    er ∙ ap₂ {C = Look} (λ x y. look_of (length xs) e.tail x y) ea eb
-    ∙ glue_look (chains_of (length xs) e.tail (used xs small ys e k.bytes one) (free xs small ys e k.bytes one)) _ _ (L.No 2) (finds xs small ys e k.bytes one)
+    er ∙ ap₂ {C = Result ℕ Refusal} (λ x y. look_of (length xs) e.tail x y) ea eb
+    ∙ glue_look (chains_of (length xs) e.tail (used xs small ys e k.bytes one) (free xs small ys e k.bytes one)) _ _ (Err R.NotInOrder) (finds xs small ys e k.bytes one)
     ∙ sym (rw (one, forms xs small ys e k.bytes one))
 
-pub looks_not : (xs : List Row) (m : ℕ) (e : Ends) (k : Key) (t : Bool) (r : Look) → t ≡ sizes_of (length xs) m → t ≡ false → r ≡ L.No 1 → Looked xs m e k r
+pub looks_not : (xs : List Row) (m : ℕ) (e : Ends) (k : Key) (t : Bool) (r : Result ℕ Refusal) → t ≡ sizes_of (length xs) m → t ≡ false → r ≡ Err R.Sizes → Looked xs m e k r
 unfolding question1
 looks_not xs m e k t r es z er ys l = er ∙ sym (rw (rows_long_lem xs, l, sym es, z))

@@ -1,6 +1,6 @@
 -- What the steps on links come to on the lent rows. A store at a link that is no row changes nothing, so that nothing here asks if a link is none.
 -- Definitions only; proofs/Chains shows them to be the steps of crate `table`.
-use Rattle.std.specs.Prelude.{ℕ, zero, suc, ◌+◌, true, false, cond, List, [], ◌∷◌, eqb, ltb, get_or, set}
+use Rattle.std.specs.Prelude.{ℕ, zero, suc, ◌+◌, true, false, cond, List, [], ◌∷◌, eqb, ltb, get_or, set, Option, Some, None}
 use Rattle.table.specs.Rows.{NONE, zero_key}
 use Rattle.receiver.specs.declared.Part.{Part}
 use Rattle.receiver.specs.Calls.{unmade_part}
@@ -9,8 +9,6 @@ use Rattle.rows.specs.declared.Row.{Row}
 use Rattle.scans.specs.declared.Ends.{Ends}
 use Rattle.rows.specs.declared.Seat.{Seat}
 use Rattle.scans.specs.Ends.{out_ends, linked_ends, with_free}
-use Rattle.scans.specs.declared.Look.{Look}
-use Rattle.scans.specs.declared.Look.TheVariants as L
 
 -- ROWS BY VALUE
 abbrev pub unmade : ℕ → Row
@@ -98,19 +96,24 @@ abbrev pub entered_ends : List Row → Ends → Ends
 entered_ends rows e = taken_ends (room_rows rows e) (room_ends rows e)
 
 abbrev pub kept_seat : Ends → ℕ → Seat
-kept_seat d i = record { ends = d; at = i; made = false; pushed = false; key = zero_key }
+kept_seat d i = record { ends = d; at = i; made = false; pushed = None }
 
 -- with no row free the key of the oldest is pushed out
 abbrev pub made_seat : Ends → Row → Ends → Seat
-made_seat e old d = record { ends = d; at = d.tail; made = true; pushed = eqb e.free NONE; key = old.key }
+made_seat e old d = record { ends = d; at = d.tail; made = true; pushed = cond (eqb e.free NONE) (Some old.key) None }
 
-abbrev pub seat_of : List Row → Ends → Look → Part → Seat
-seat_of rows e (L.No n) p = made_seat e (get_or rows e.head blank) (entered_ends rows e)
-seat_of rows e (L.At i) p = kept_seat (marked_ends rows e i p) i
+-- row i has the key, or none: what a claim goes on from
+abbrev pub part_at : List Row → Option ℕ → Part
+part_at rows None = unmade_part
+part_at rows (Some i) = (get_or rows i blank).part
 
-abbrev pub seated_rows : List Row → Ends → Look → Key → Part → List Row
-seated_rows rows e (L.No n) k p = entered_rows rows e k p
-seated_rows rows e (L.At i) k p = marked_rows rows e i p
+abbrev pub seat_of : List Row → Ends → Option ℕ → Part → Seat
+seat_of rows e None p = made_seat e (get_or rows e.head blank) (entered_ends rows e)
+seat_of rows e (Some i) p = kept_seat (marked_ends rows e i p) i
+
+abbrev pub seated_rows : List Row → Ends → Option ℕ → Key → Part → List Row
+seated_rows rows e None k p = entered_rows rows e k p
+seated_rows rows e (Some i) k p = marked_rows rows e i p
 
 -- FRESH: row i of n
 abbrev pub fresh_of : ℕ → ℕ → Row

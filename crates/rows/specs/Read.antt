@@ -1,5 +1,5 @@
 -- The lent rows, cells and ends, read as the watch of 01, 'Seven calls, seven questions'; and what a look at them tells. Definitions only.
-use Rattle.std.specs.Prelude.{◌≡◌, ℕ, Bool, cond, List, map, length, get_or, Option, None, Some}
+use Rattle.std.specs.Prelude.{◌≡◌, ℕ, Bool, cond, List, map, length, get_or, Result, Err}
 use Rattle.table.specs.Machine as M
 use Rattle.table.specs.Rows as T
 use Rattle.table.specs.Rows.{Watch, Form}
@@ -9,8 +9,9 @@ use Rattle.receiver.specs.Calls.{siting, unmade_part}
 use Rattle.scans.specs.declared.Key.{Key}
 use Rattle.rows.specs.declared.Row.{Row}
 use Rattle.scans.specs.declared.Ends.{Ends}
-use Rattle.scans.specs.declared.Look.{Look}
-use Rattle.scans.specs.declared.Look.TheVariants as L
+use Rattle.scans.specs.Scan.{row_or_no}
+use Rattle.table.specs.declared.Refusal.{Refusal}
+use Rattle.table.specs.declared.Refusal.TheVariants as R
 
 -- a row of the siting watch
 abbrev pub form : Form Part
@@ -37,13 +38,9 @@ abbrev pub watch_is : List Row → List ℕ → List ℕ → Watch Part
 watch_is xs ys ws = record { rows = map row_is xs; cells = ys; ends = ends_is ws }
 
 -- QUESTIONS 1, 2 AND 3 IN ONE: the number of the first no, or the row
-abbrev pub found_is : Option ℕ → Look
-found_is None = L.No 3
-found_is (Some i) = L.At i
-
-abbrev pub looked_in : Watch Part → M.Key → Look
-looked_in w k = cond (question1 form w) (cond (question2 form w) (found_is (find_row unmade_part w.rows (length w.rows) k w.ends.head)) (L.No 2)) (L.No 1)
+abbrev pub looked_in : Watch Part → M.Key → Result ℕ Refusal
+looked_in w k = cond (question1 form w) (cond (question2 form w) (row_or_no (find_row unmade_part w.rows (length w.rows) k w.ends.head)) (Err R.NotInOrder)) (Err R.Sizes)
 
 -- for any m cells
-abbrev pub Looked : List Row → ℕ → Ends → Key → Look → Type 0
+abbrev pub Looked : List Row → ℕ → Ends → Key → Result ℕ Refusal → Type 0
 Looked xs m e k r = (ys : List ℕ) → length ys ≡ m → r ≡ looked_in (watch_of xs ys e) k.bytes

@@ -3,17 +3,17 @@
 #![tactic(auto)]
 
 ghost use Rattle.std.specs.Prelude.{◌≡◌};
-ghost use Rattle.rows.specs.Read.{fits};
-ghost use Rattle.rows.specs.Links.{blank, unmade, with_next, with_prev, with_links, with_part, made_row, kept_seat, made_seat, fresh_of};
+ghost use Rattle.rows.specs.Read.{fits, ends_of, ends_is};
+ghost use Rattle.rows.specs.Links.{blank, unmade, made_row, kept_seat, made_seat, fresh_of};
 ghost use Rattle.rows.specs.Search.{sizes_of, step_of};
 
 use heard::Heard;
 use receiver::Part;
-use scans::{Cursor, Ends, Key, back_fits, both, first_found, is_none, no_row, same_key};
+use scans::{Cursor, Ends, Key, back_fits, is_none, no_row};
 use sites::Site;
 use verdicts::Verdict;
 
-// Links are row numbers, or none (the largest u32): the rows before and after in the used chain; a free row's `next` is the free chain's.
+// Links are row numbers, or none (the largest u32), as they are lent (a): the rows before and after in the used chain; a free row's `next` is the free chain's.
 #[derive(Clone, Copy)]
 pub struct Row {
     pub key: [u8; 32],
@@ -45,13 +45,7 @@ impl Row {
 pub fn sizes_fit(n: usize, m: usize) -> bool
     ensures { result ≡ sizes_of n m }
 {
-    if n < 1 {
-        return false;
-    }
-    if 4096 < n {
-        return false;
-    }
-    m == 3344 * n
+    1 <= n && n <= 4096 && m == 3344 * n
 }
 
 // ---- one row, by value
@@ -62,64 +56,43 @@ pub fn unmade() -> Row
     Row::UNMADE
 }
 
-pub fn with_next(mut row: Row, n: u32) -> Row
-    ensures { result ≡ with_next row n }
-{
-    row.next = n;
-    row
-}
-
-pub fn with_prev(mut row: Row, n: u32) -> Row
-    ensures { result ≡ with_prev row n }
-{
-    row.prev = n;
-    row
-}
-
-pub fn with_links(mut row: Row, p: u32, n: u32) -> Row
-    ensures { result ≡ with_links row p n }
-{
-    row.prev = p;
-    row.next = n;
-    row
-}
-
-pub fn with_part(mut row: Row, part: Part) -> Row
-    ensures { result ≡ with_part row part }
-{
-    row.part = part;
-    row
-}
-
-pub fn prev_of(row: Row) -> u32
-    ensures { result ≡ row.prev }
-{
-    row.prev
-}
-
-pub fn next_of(row: Row) -> u32
-    ensures { result ≡ row.next }
-{
-    row.next
-}
-
 // A free row, followed by n.
 pub fn unmade_row(n: u32) -> Row
     ensures { result ≡ unmade n }
 {
-    with_next(unmade(), n)
+    Row {
+        next: n,
+        ..unmade()
+    }
 }
 
 pub fn made_row(old: Row, key: Key, part: Part) -> Row
     ensures { result ≡ made_row old key part }
 {
-    let k = key.bytes;
+    let bytes = key.bytes;
     Row {
-        key: k,
-        part: part,
-        prev: old.prev,
-        next: old.next,
+        key: bytes,
+        part,
+        ..old
     }
+}
+
+// ---- the ends, as they are lent: `Ends` is of crate `scans`, so that no `From` can stand here (d)
+
+pub fn ends_of(ends: &[u32; 3]) -> Ends
+    ensures { ends_of result ≡ ends_is ends.now }
+{
+    Ends {
+        head: ends[0],
+        tail: ends[1],
+        free: ends[2],
+    }
+}
+
+pub fn keep(ends: &mut [u32; 3], e: Ends)
+    ensures { ends_is ends.new ≡ ends_of e }
+{
+    *ends = [e.head, e.tail, e.free];
 }
 
 // ---- a claim's row
@@ -130,8 +103,7 @@ pub struct Seat {
     pub ends: Ends,
     pub at: u32,
     pub made: bool,
-    pub pushed: bool,
-    pub key: [u8; 32],
+    pub pushed: Option<[u8; 32]>,
 }
 
 pub fn kept_seat(d: Ends, i: u32) -> Seat
@@ -141,8 +113,7 @@ pub fn kept_seat(d: Ends, i: u32) -> Seat
         ends: d,
         at: i,
         made: false,
-        pushed: false,
-        key: [0u8; 32],
+        pushed: None,
     }
 }
 
@@ -150,14 +121,11 @@ pub fn kept_seat(d: Ends, i: u32) -> Seat
 pub fn made_seat(e: Ends, old: Row, d: Ends) -> Seat
     ensures { result ≡ made_seat e old d }
 {
-    let t = is_none(e.free);
-    let k = old.key;
     Seat {
         ends: d,
         at: d.tail,
         made: true,
-        pushed: t,
-        key: k,
+        pushed: is_none(e.free).then_some(old.key),
     }
 }
 
@@ -167,34 +135,24 @@ pub fn made_seat(e: Ends, old: Row, d: Ends) -> Seat
 pub fn part_fits(part: Part) -> bool
     ensures { result ≡ fits part }
 {
-    let heard = part.heard;
-    let site = heard.site;
-    let verdict = part.verdict;
-    both(heard::fits(site), verdicts::fits(verdict))
+    heard::fits(part.heard.site) && verdicts::fits(part.verdict)
 }
 
 pub fn step(s: Cursor, row: Row) -> Cursor
     ensures { result ≡ step_of s row }
 {
-    let left = s.left;
-    if left == 0 {
+    if s.left == 0 {
         return s;
     }
-    let part = row.part;
-    let k = s.key;
-    let rk = row.key;
-    let fits = back_fits(s.back, row.prev, s.prev);
-    let sound = both(s.sound, part_fits(part));
-    let found = first_found(s.found, s.at, same_key(k, rk));
+    let key = s.key;
     Cursor {
         at: row.next,
         prev: s.at,
-        left: left - 1,
-        back: s.back,
-        fits: fits,
-        sound: sound,
-        found: found,
-        key: k,
+        left: s.left - 1,
+        fits: back_fits(s.back, row.prev, s.prev),
+        sound: s.sound && part_fits(row.part),
+        found: s.found.or((key == row.key).then_some(s.at)),
+        ..s
     }
 }
 
@@ -204,13 +162,8 @@ pub fn step(s: Cursor, row: Row) -> Cursor
 pub fn fresh_row(n: usize, i: usize) -> Row
     ensures { result ≡ fresh_of n i }
 {
-    let none = no_row();
-    if i < 4095 {
-        let t = i + 1;
-        if t == n {
-            return unmade_row(none);
-        }
-        return unmade_row(t as u32);
+    if i < 4095 && i + 1 != n {
+        return unmade_row((i + 1) as u32);
     }
-    unmade_row(none)
+    unmade_row(no_row())
 }

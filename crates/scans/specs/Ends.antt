@@ -1,7 +1,11 @@
 -- What the steps on links come to on the ends of the chains. Definitions only; `rows/proofs/Chains` shows them to be the steps of crate `table`.
 use Rattle.std.specs.Prelude.{ℕ, cond, eqb}
-use Rattle.table.specs.Rows.{NONE}
+use Rattle.table.specs.Rows.{NONE, zero_key}
+use Rattle.scans.specs.declared.Key.{Key}
 use Rattle.scans.specs.declared.Ends.{Ends}
+
+abbrev pub no_key : Key
+no_key = record { bytes = zero_key }
 
 abbrev pub out_ends : Ends → ℕ → ℕ → Ends
 out_ends e p n = record { head = cond (eqb p NONE) n e.head; tail = cond (eqb n NONE) p e.tail; free = e.free }

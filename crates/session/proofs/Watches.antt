@@ -1,6 +1,6 @@
 -- A watch that is opened has at most 64 rows, and lies within what is lent.
 use Rattle.std.proofs.Common.{◌≡◌, ℕ, ◌≤◌, List, length, arith, Result, Ok}
-use Rattle.moves.specs.declared.Answer.{Answer}
+use Rattle.moves.specs.Answers.{Answer}
 use Rattle.readers.specs.declared.Fault.{Fault}
 use Rattle.lending.specs.declared.Size.{Size}
 use Rattle.lending.specs.Lendings.{Within, Room}

@@ -1,5 +1,5 @@
 -- What a line is answered, as a value. Definitions only.
-use Rattle.std.specs.Prelude.{ℕ, ◌&&◌, cond, Float, None}
+use Rattle.std.specs.Prelude.{ℕ, ◌&&◌, cond, Float, None, Err}
 use Rattle.std.specs.Int.Count.{count_trailing_zeros}
 use Rattle.cells.specs.Cells.{bucket_of, aircraft_bit}
 use Rattle.floats.specs.Horizon.{horizon}
@@ -7,6 +7,7 @@ use Rattle.sites.specs.Sites.{held, same_place, placing}
 use Rattle.sites.specs.declared.Site.{Site}
 use Rattle.grammar.specs.declared.Line.{Line}
 use Rattle.grammar.specs.declared.Line.TheVariants as line
+use Rattle.table.specs.declared.Refusal.TheVariants as R
 use Rattle.answers.specs.declared.Reply.{Reply}
 use Rattle.answers.specs.declared.Reply.TheVariants as reply
 
@@ -15,7 +16,7 @@ abbrev pub site_of : Float → Float → Site
 site_of a b = record { lat = a; lon = b; alt_m = None }
 
 unfoldable pub same_of : Site → Site → Reply
-same_of a b = cond (held a && held b) (reply.Same (same_place a b)) (reply.No 4)
+same_of a b = cond (held a && held b) (reply.Same (same_place a b)) (reply.Answered (Err R.Degrees))
 
 -- bit ADDRESS: the number of the aircraft's bit, from the lowest, 0
 unfoldable pub bit_of : ℕ → ℕ

@@ -6,13 +6,11 @@ use Rattle.table.specs.Rows.{Watch}
 use Rattle.receiver.specs.declared.Part.{Part}
 use Rattle.receiver.specs.Calls.{Out, fresh_call, drop_oldest, call_on, check, take_out, claim, position, judging}
 use Rattle.flat.specs.Table.{rows_of}
-use Rattle.moves.specs.Answers.{outcome}
-use Rattle.moves.specs.declared.Answer.{Answer}
+use Rattle.moves.specs.Answers.{Answer, outcome}
 use Rattle.grammar.specs.declared.Call.{Call}
 use Rattle.grammar.specs.declared.Call.TheVariants as call
 use Rattle.grammar.specs.declared.Line.{Line}
 use Rattle.grammar.specs.declared.Line.TheVariants as line
-use Rattle.scans.specs.declared.Key.{Key}
 use Rattle.lending.specs.declared.Size.{Size}
 use Rattle.grammar.specs.declared.Change.{Change}
 use Rattle.grammar.specs.declared.Said.{Said}
@@ -41,9 +39,6 @@ pub record Called (z : Size) (c : Call) (k : M.Key) (xs ys ws xs' ys' ws' : List
   pub cells_behind : drop z.cells ys' ≡ drop z.cells ys
 
 -- ---- what a line comes to
-
-abbrev pub no_key : Key
-no_key = record { bytes = replicate 32 0 }
 
 -- a watch of C rows has 3,344 × C cells
 abbrev pub sized_of : ℕ → Size

@@ -6,7 +6,7 @@ pub mod single;
 
 ghost use Rattle.std.specs.Prelude.{◌≡◌, ◌≤◌};
 ghost use Rattle.lending.specs.Lendings.{Room};
-ghost use Rattle.session.specs.Watches.{no_key, sized_of, Opened, Watched, Answers, reply_for, Written, Ran, Heard};
+ghost use Rattle.session.specs.Watches.{sized_of, Opened, Watched, Answers, reply_for, Written, Ran, Heard};
 
 use answers::Reply;
 use grammar::{Call, Change, Line, Said};
@@ -14,12 +14,6 @@ use lending::{Size, Watch};
 use moves::Answer;
 use readers::Fault;
 use scans::Key;
-
-fn no_key() -> Key
-    ensures { result ≡ no_key }
-{
-    Key { bytes: [0u8; 32] }
-}
 
 pub fn sized(c: u32) -> Size
     requires { c ≤ 64 }
@@ -46,7 +40,7 @@ pub fn open(
         return Err(Fault::TooManyRows);
     }
     lending::no_ends(ends);
-    Ok(run::call_in(sized(c), rows, cells, ends, Call::Fresh, no_key()))
+    Ok(run::call_in(sized(c), rows, cells, ends, Call::Fresh, scans::zero_key()))
 }
 
 // What was asked has no answer but for what is wrong.
@@ -94,7 +88,7 @@ fn write(w: &mut Watch<'_>, asked: Change, key: Key) -> Reply
     reply_for(w.apply(asked, key))
 }
 
-// What a line comes to, with the key that it names.
+// What a line comes to, with the key that it names. Each arm hands on what its case holds (d).
 #[tactic(auto, unfolding(crate::specs::Watches::Ran))]
 fn line(w: &mut Watch<'_>, asked: Line, key: Key) -> Reply
     requires { Room w.old.rows.now w.old.cells.now }

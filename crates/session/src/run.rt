@@ -11,7 +11,7 @@ use lending::Size;
 use moves::Answer;
 use scans::Key;
 
-// One of the seven calls, on the words and cells of a watch.
+// One of the seven calls, on the words and cells of a watch. Each takes what its case holds, so that no table of them has one type (d).
 fn by(rows: &mut [u64], cells: &mut [u32], ends: &mut [u32; 3], call: Call, key: Key) -> Answer
     ensures { outcome result (rows_of rows.new) cells.new ends.new ≡ call_by call key.bytes (watch_is (rows_of rows.old) cells.old ends.old) }
 {

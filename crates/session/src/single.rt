@@ -5,6 +5,7 @@ ghost use Rattle.session.specs.Replies.{site_of, same_of, bit_of, reply_of};
 use answers::Reply;
 use grammar::Line;
 use sites::Site;
+use table::Refusal;
 
 fn site(lat: f64, lon: f64) -> Site
     ensures { result ≡ site_of lat lon }
@@ -23,7 +24,7 @@ fn same(a: Site, b: Site) -> Reply
     if sites::in_degrees(a) && sites::in_degrees(b) {
         Reply::Same(sites::same_place(a, b))
     } else {
-        Reply::No(4)
+        Reply::Answered(Err(Refusal::Degrees))
     }
 }
 

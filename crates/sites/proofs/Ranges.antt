@@ -1,7 +1,6 @@
 -- The ticks of degrees that are in range, as a callee is passed them: read back from 64 bits, and no larger than the range.
 -- Assumes nothing.
 use mathlib.Core.Path.{◌≡◌, subst, sym, ◌∙◌}
-use mathlib.Core.Bool.{Bool, true}
 use Prim.Native.Nat.{ℕ, ◌*◌, ◌^◌, ◌≤◌}
 use native.Mathlib.Omega.{arith}
 use lib.Dec.{T}
@@ -30,7 +29,3 @@ read_tick x z f e = to_z-of_z w64 z f ∙ e
 
 pub tick_size : (d : ℕ) (x : Float) (z : ℤ) → T (within d x) → SFits w64 z → z ≡ tick_of x → nat_abs (to_z w64 (of_z w64 z)) ≤ d * 2 ^ 24
 tick_size d x z h f e = subst (λ (y : ℤ). nat_abs y ≤ d * 2 ^ 24) (sym (read_tick x z f e)) (tick_bound d x h)
-
--- a test that came out true
-pub tested : {b t : Bool} → t ≡ b → t ≡ true → T b
-tested e h = subst T (sym h ∙ e) tt

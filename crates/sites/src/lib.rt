@@ -2,10 +2,11 @@
 #![tactic(auto)]
 
 ghost use Rattle.std.specs.Prelude.{◌≡◌, ◌<◌, T};
-ghost use Rattle.measures.specs.Degrees.{in_degrees};
+ghost use Rattle.measures.specs.Degrees.{in_degrees, tick_of};
 ghost use Rattle.sites.specs.Sites.{held, same_place, antenna, placed, placing};
 
 use angles::site;
+use angles::site::Ticks;
 use floats::horizon;
 use measures::degrees;
 
@@ -23,16 +24,24 @@ pub fn in_degrees(s: Site) -> bool
     degrees::in_degrees(s.lat, s.lon)
 }
 
+// Two degrees as the nearest ticks.
+fn in_ticks(lat: f64, lon: f64) -> Ticks
+    requires { T (in_degrees lat lon) }
+    ensures { (result.lat ≡ tick_of lat) × (result.lon ≡ tick_of lon) }
+{
+    Ticks {
+        lat: degrees::tick(lat),
+        lon: degrees::tick(lon),
+    }
+}
+
 // At most 1 km apart.
+#[tactic(auto, unfolding(crate::specs::Sites::same_place))]
 pub fn same_place(a: Site, b: Site) -> bool
     requires { T (held a) × T (held b) }
     ensures { result ≡ same_place a b }
 {
-    let lat1 = degrees::tick(a.lat);
-    let lon1 = degrees::tick(a.lon);
-    let lat2 = degrees::tick(b.lat);
-    let lon2 = degrees::tick(b.lon);
-    site::same_place(lat1, lon1, lat2, lon2)
+    site::same_place(in_ticks(a.lat, a.lon), in_ticks(b.lat, b.lon))
 }
 
 // The antenna's height: max(alt or 0, 0) + 100.
@@ -43,18 +52,15 @@ pub fn antenna_m(s: Site) -> f64
 }
 
 // The cell, or 1,600 + the far bin, of a position seen from a site.
+#[tactic(auto, unfolding(crate::specs::Sites::placed))]
 pub fn place_in(s: Site, lat: f64, lon: f64) -> u16
     requires { T (held s) × T (in_degrees lat lon) }
     ensures { (result ≡ placed s.lat s.lon lat lon) × (result < 1672) }
 {
-    let lat1 = degrees::tick(s.lat);
-    let lon1 = degrees::tick(s.lon);
-    let lat2 = degrees::tick(lat);
-    let lon2 = degrees::tick(lon);
-    site::place(lat1, lon1, lat2, lon2) as u16
+    site::place(in_ticks(s.lat, s.lon), in_ticks(lat, lon)).number as u16
 }
 
-// The same of any four degrees: 65,535 where they are out of range.
+// The same of any four degrees: 65,535, as C has no Option (a), where they are out of range.
 #[tactic(auto, unfolding(crate::specs::Sites::placing))]
 pub fn place(site_lat: f64, site_lon: f64, lat: f64, lon: f64) -> u16
     ensures { result ≡ placing site_lat site_lon lat lon }

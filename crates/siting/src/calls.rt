@@ -1,6 +1,6 @@
 // The seven calls as C functions over lent memory: rows as 25 numbers each (crate `flat`), cells, three ends, a key as four numbers, and nine numbers
 // for the answer (crate `replies`). Nothing is asked of any of them: what is no watch in order is refused, and a refusal changes nothing that was lent
-// but the answer. C hands over the parts of a watch one by one and has no Option: a tag of 0 says that the value behind it is none. It knows each call by
+// but the answer. C hands over the parts of a watch one by one and has no Option (a): a tag of 0 says that the value behind it is none. It knows each call by
 // a name of its own, so the seven stand side by side.
 ghost use Rattle.receiver.specs.Calls as calls;
 ghost use Rattle.rows.specs.Read.{watch_is};

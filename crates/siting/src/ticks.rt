@@ -1,18 +1,20 @@
-// The turn keeper (02, Item 1) as a C function over the memory of the seven calls, which it only reads, and a list of keys of 32 bytes each.
+// The turn keeper (02, Item 1) as a C function over the memory of the seven calls, which it only reads, and a list of keys of 32 bytes each:
+// all one by one, as C has it (a).
 ghost use Rattle.std.specs.Prelude.{◌≡◌};
 ghost use Rattle.rows.specs.Read.{form, watch_is};
 ghost use Rattle.flat.specs.Table.{rows_of};
 ghost use Rattle.turns.specs.Turn.{turn_on};
 ghost use Rattle.siting.specs.Ticks.{turn_words, Ticked};
 
+use table::Refusal;
 use turns::Turned;
 
-fn put_turn(answer: &mut [u64; 9], t: Turned)
+fn put_turn(answer: &mut [u64; 9], t: Result<Turned, Refusal>)
     ensures { answer.new ≡ turn_words t }
 {
     match t {
-        Turned::Refused(n) => replies::put(answer, 0, n as u64, 0, 0),
-        Turned::Named { count, next } => replies::put(answer, 6, count as u64, next as u64, 0),
+        Ok(turned) => replies::put(answer, 6, turned.count as u64, turned.next as u64, 0),
+        Err(r) => replies::put(answer, 0, r.number() as u64, 0, 0),
     }
 }
 

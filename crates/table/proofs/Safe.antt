@@ -45,9 +45,6 @@ module _ {P : Type 0} (u : P) where
   pub head_row : (c : Chain P) (used free : List ℕ) → Chained u c used free → c.ends.head ≢ NONE → c.ends.head < length c.rows
   head_row c used free v n = subst (λ (x : ℕ). x < length c.rows) (sym v.head_is) (first_below c.rows NONE used v.linked (subst (λ (x : ℕ). x ≢ NONE) v.head_is n))
 
-  pub tail_row : (c : Chain P) (used free : List ℕ) → Chained u c used free → c.ends.tail ≢ NONE → c.ends.tail < length c.rows
-  tail_row c used free v n = subst (λ (x : ℕ). x < length c.rows) (sym v.tail_is) (last_below c.rows NONE used NONE v.linked refl (subst (λ (x : ℕ). x ≢ NONE) v.tail_is n))
-
   pub free_row_lem : (c : Chain P) (used free : List ℕ) → Chained u c used free → c.ends.free ≢ NONE → c.ends.free < length c.rows
   free_row_lem c used free v n = subst (λ (x : ℕ). x < length c.rows) (sym v.free_is) (free_below c.rows free v.freed (subst (λ (x : ℕ). x ≢ NONE) v.free_is n))
 

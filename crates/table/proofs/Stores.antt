@@ -1,13 +1,12 @@
--- For code that stores in place: a row's cells written back with some of them changed are those stores alone, and a row written back unchanged
--- changes nothing.
+-- For code that stores in place: a row written back unchanged changes nothing.
 use mathlib.Core.Path.{◌≡◌, sym, ap, ap₂, ◌∙◌}
-use Prim.Native.Nat.{ℕ, suc, ◌+◌, ◌*◌, ◌≤◌, ◌<◌}
+use Prim.Native.Nat.{ℕ, ◌+◌, ◌*◌, ◌≤◌, ◌<◌}
 use native.Mathlib.Omega.{arith}
 use native.Mathlib.Nat.{mul-le-mul_left}
 use mathlib.Core.Bool.{true}
-use mathlib.Core.List.{List, [], ◌∷◌, ◌++◌}
-use lib.ListN.{length, set, take, drop, length-set, length-drop, take-append-drop}
-use lib.Seq.{sets, length-sets, sets-eq, take-set-le, take-set-lt, drop-set-lt, drop-set-add, take-add, set-get_or, length-take-le}
+use mathlib.Core.List.{List, ◌++◌}
+use lib.ListN.{length, take, drop, length-drop, take-append-drop}
+use lib.Seq.{sets, sets-eq, take-add, set-get_or, length-take-le}
 use Rattle.table.specs.Machine.{Key, same}
 use Rattle.table.specs.Rows.{NONE, Row, Watch, Form, unmade_row, row_at}
 use Rattle.table.specs.Watch.{Body, body_at, put_body}
@@ -23,33 +22,6 @@ back_same W a l h =
     let e : length (part W a l) ≡ W = length-take-le W (drop a l) (omega (arith, length-drop a l)) in
     let s : sets l a (part W a l) ≡ take a l ++ part W a l ++ drop (a + length (part W a l)) l = sets-eq (part W a l) l a (omega arith) in
     s ∙ ap (λ (n : ℕ). take a l ++ part W a l ++ drop (a + n) l) e ∙ ap (λ (x : List ℕ). x ++ drop (a + W) l) (sym (take-add a W l)) ∙ take-append-drop (a + W) l
-
--- what stands under the cells written back does not matter
-back_under : (W a : ℕ) (l x : List ℕ) (j v : ℕ) → length x ≡ W → a + W ≤ length l → j < W → sets l a x ≡ sets (set l (a + j) v) a x
-back_under W a l x j v e h n =
-    let s : sets l a x ≡ take a l ++ x ++ drop (a + length x) l = sets-eq x l a (omega arith) in
-    let t : sets (set l (a + j) v) a x ≡ take a (set l (a + j) v) ++ x ++ drop (a + length x) (set l (a + j) v) = sets-eq x (set l (a + j) v) a (omega (arith, length-set l (a + j) v)) in
-    s ∙ sym (t ∙ ap₂ {C = List ℕ} (λ p q. p ++ x ++ q) (take-set-le a l (a + j) v (omega arith)) (drop-set-lt (a + length x) l (a + j) v (omega arith)))
-
-part_set : (W a : ℕ) (l : List ℕ) (j v : ℕ) → j < W → part W a (set l (a + j) v) ≡ set (part W a l) j v
-part_set W a l j v n = ap (λ (x : List ℕ). take W x) (drop-set-add a l j v) ∙ take-set-lt W (drop a l) j v n
-
--- WRITTEN BACK WITH A RUN OF STORES: those stores alone. (One store is `vs = v ∷ []`.)
-pub back_stores : (W a : ℕ) (vs l : List ℕ) (j : ℕ) → a + W ≤ length l → j + length vs ≤ W → sets l a (sets (part W a l) j vs) ≡ sets l (a + j) vs
-back_stores W a [] l j h n = back_same W a l h
-back_stores W a (v ∷ vs) l j h n =
-    let l' = set l (a + j) v in
-    let e : length (sets (set (part W a l) j v) (suc j) vs) ≡ W = length-sets (set (part W a l) j v) (suc j) vs ∙ length-set (part W a l) j v ∙ length-take-le W (drop a l) (omega (arith, length-drop a l)) in
-    back_under W a l (sets (set (part W a l) j v) (suc j) vs) j v e h (omega arith)
-    ∙ ap (λ (x : List ℕ). sets l' a (sets x (suc j) vs)) (sym (part_set W a l j v (omega arith)))
-    ∙ back_stores W a vs l' (suc j) (omega (arith, length-set l (a + j) v)) (omega arith)
-    ∙ ap (λ (n : ℕ). sets l' n vs) next
-  where
-    next : a + suc j ≡ suc (a + j)
-    next = omega arith
-
-pub back_store : (W a : ℕ) (l : List ℕ) (j v : ℕ) → a + W ≤ length l → j < W → sets l a (set (part W a l) j v) ≡ set l (a + j) v
-back_store W a l j v h n = back_stores W a (v ∷ []) l j h (omega arith)
 
 module _ {P : Type 0} (F : Form P) where
   -- the call's key is the row's

@@ -1,6 +1,6 @@
 -- The size of a difference of integers, and that a number of a small size fits 64 bits with a sign.
 -- Assumes nothing.
-use mathlib.Core.Path.{◌≡◌, refl, ap}
+use mathlib.Core.Path.{◌≡◌, refl}
 use mathlib.Core.Bool.{Bool, true, false}
 use Prim.Native.Nat.{ℕ, zero, suc, ◌+◌, ◌^◌, ◌≤◌}
 use native.Mathlib.Omega.{arith}
@@ -41,8 +41,5 @@ pub small_fits : (z : ℤ) → nat_abs z ≤ 2 ^ 62 → SFits w64 z
 small_fits z h = record { sfits = omega (arith, mag_le z) }
 
 -- what a callee is passed is read back from the bits
-pub read_size : (x : ℤ) → SFits w64 x → nat_abs (to_z w64 (of_z w64 x)) ≡ nat_abs x
-read_size x f = ap nat_abs (to_z-of_z w64 x f)
-
 pub read_less : (x y : ℤ) → SFits w64 x → SFits w64 y → to_z w64 (of_z w64 x) -ℤ to_z w64 (of_z w64 y) ≡ x -ℤ y
 read_less x y f g = rw (to_z-of_z w64 x f, to_z-of_z w64 y g)

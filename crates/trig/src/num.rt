@@ -4,6 +4,7 @@ ghost use Rattle.trig.specs.Ticks.{scaled};
 ghost use Rattle.trig.specs.Value.{value};
 
 use super::series;
+use super::series::Fraction;
 use std::ops::Sub;
 
 // Zero may have either sign.
@@ -13,9 +14,17 @@ pub struct Num {
     pub size: u64,
 }
 
+// A sine or a cosine: a number of the unit 2^-30, from -1 to 1.
+#[derive(Clone, Copy)]
+pub struct Sine {
+    pub n: Num,
+    pub ghost at_most_one: { n.size ≤ 2 ^ 30 },
+}
+
 impl From<i64> for Num {
     ghost from_gives = { λ x n. (value n ≡ x) × (n.size ≡ nat_abs x) };
 
+    #[tactic(auto, using(crate::proofs::Signs::signed_of))]
     fn from(x: i64) -> Num {
         Num {
             minus: x < 0,
@@ -31,6 +40,7 @@ impl Sub for Num {
 
     ghost sub_gives = { λ a b n. (value n ≡ value a -ℤ value b) × (n.size ≤ a.size + b.size) };
 
+    #[tactic(auto, using(crate::proofs::Signs::two_signs, crate::proofs::Signs::same_sign, crate::proofs::Signs::minus_minus, crate::proofs::Signs::plus_plus))]
     fn sub(self, b: Num) -> Num {
         if self.minus != b.minus {
             Num {
@@ -54,6 +64,7 @@ pub fn less(a: i64, b: i64) -> Num
 }
 
 // m − n.
+#[tactic(auto, using(crate::proofs::Signs::sub_sizes))]
 pub fn sub(m: u64, n: u64) -> Num
     requires { (m ≤ 2 ^ 40) × (n ≤ 2 ^ 40) }
     ensures { (value result ≡ pos m -ℤ pos n) × (result.size ≤ m + n) }
@@ -65,23 +76,25 @@ pub fn sub(m: u64, n: u64) -> Num
 }
 
 // a × c div 2^30, for a c that is not negative.
-pub fn part(a: Num, c: u64) -> Num
-    requires { (a.size ≤ 2 ^ 32) × (c ≤ 2 ^ 30) }
-    ensures { (value result ≡ scaled (value a) (pos c)) × (result.size ≤ a.size) }
+#[tactic(auto, using(crate::proofs::Signs::scaled_pos))]
+pub fn part(a: Num, c: Fraction) -> Num
+    requires { a.size ≤ 2 ^ 32 }
+    ensures { (value result ≡ scaled (value a) (pos c.n)) × (result.size ≤ a.size) }
 {
     Num {
-        minus: a.minus,
         size: series::mul30(a.size, c),
+        ..a
     }
 }
 
 // a × b div 2^30, rounded toward zero.
-pub fn scale(a: Num, b: Num) -> Num
-    requires { (a.size ≤ 2 ^ 32) × (b.size ≤ 2 ^ 30) }
-    ensures { (value result ≡ scaled (value a) (value b)) × (result.size ≤ a.size) }
+#[tactic(auto, using(crate::proofs::Signs::scaled_signs))]
+pub fn scale(a: Num, b: Sine) -> Num
+    requires { a.size ≤ 2 ^ 32 }
+    ensures { (value result ≡ scaled (value a) (value b.n)) × (result.size ≤ a.size) }
 {
     Num {
-        minus: a.minus != b.minus,
-        size: series::mul30(a.size, b.size),
+        minus: a.minus != b.n.minus,
+        size: series::mul30(a.size, Fraction { n: b.n.size }),
     }
 }

@@ -3,52 +3,77 @@ ghost use Rattle.std.specs.Prelude.{◌≡◌, ◌≤◌, ◌<◌, ◌*◌, ◌/
 ghost use Rattle.trig.specs.Ticks.{deg};
 ghost use Rattle.trig.specs.Series.{rad, term, sin_h, cos_r};
 
+use std::ops::Mul;
+
 const ONE: u64 = 1 << 30;
 
 const K: u64 = 4797524517;
 
+// A number of the unit 2^-30, from 0 to 1.
+#[derive(Clone, Copy)]
+pub struct Fraction {
+    pub n: u64,
+    pub ghost at_most_one: { n ≤ 2 ^ 30 },
+}
+
+// Of two fractions the product, rounded down.
+impl Mul for Fraction {
+    type Output = Fraction;
+
+    ghost mul_gives = { λ a b c. c.n ≡ a.n * b.n / 2 ^ 30 };
+
+    fn mul(self, b: Fraction) -> Fraction {
+        Fraction {
+            n: mul30(self.n, b),
+        }
+    }
+}
+
 // r of t ticks, 0 to 45 degrees.
-pub fn radians(t: u64) -> u64
+pub fn radians(t: u64) -> Fraction
     requires { t ≤ deg 45 }
-    ensures { (result ≡ rad t) × (result ≤ 843314856) }
+    ensures { (result.n ≡ rad t) × (result.n ≤ 843314856) }
 {
-    t * K / (1 << 32)
+    Fraction {
+        n: t * K / (1 << 32),
+    }
 }
 
 // One step of either sum.
-pub fn one_term(z: u64, s: u64, d: u64) -> u64
-    requires { (z ≤ 2 ^ 30) × (s ≤ 2 ^ 30) × (0 < d) }
-    ensures { (result ≡ term z s d) × (result ≤ 2 ^ 30) }
+#[tactic(auto, unfolding(crate::specs::Series::term))]
+pub fn one_term(z: Fraction, s: Fraction, d: u64) -> Fraction
+    requires { 0 < d }
+    ensures { result.n ≡ term z.n s.n d }
 {
-    ONE - z * s / ONE / d
+    Fraction {
+        n: ONE - z.n * s.n / ONE / d,
+    }
 }
 
-// a × b div 2^30, for a number b of the unit 2^-30 that is at most 1: at most a.
-pub fn mul30(a: u64, b: u64) -> u64
-    requires { (a ≤ 2 ^ 32) × (b ≤ 2 ^ 30) }
-    ensures { (result ≡ a * b / 2 ^ 30) × (result ≤ a) }
+// a × b div 2^30: at most a.
+pub fn mul30(a: u64, b: Fraction) -> u64
+    requires { a ≤ 2 ^ 32 }
+    ensures { (result ≡ a * b.n / 2 ^ 30) × (result ≤ a) }
 {
-    a * b / ONE
+    a * b.n / ONE
 }
 
-pub fn sin_h(r: u64) -> u64
-    requires { r ≤ 843314856 }
-    ensures { (result ≡ sin_h r) × (result ≤ 2 ^ 30) }
+pub fn sin_h(r: Fraction) -> Fraction
+    ensures { result.n ≡ sin_h r.n }
 {
-    let z = mul30(r, r);
-    let mut s = ONE;
+    let z = r * r;
+    let mut s = Fraction { n: ONE };
     for k in (1..7).rev() {
         s = one_term(z, s, 2 * k * (2 * k + 1));
     }
-    mul30(r, s)
+    r * s
 }
 
-pub fn cos_r(r: u64) -> u64
-    requires { r ≤ 843314856 }
-    ensures { (result ≡ cos_r r) × (result ≤ 2 ^ 30) }
+pub fn cos_r(r: Fraction) -> Fraction
+    ensures { result.n ≡ cos_r r.n }
 {
-    let z = mul30(r, r);
-    let mut c = ONE;
+    let z = r * r;
+    let mut c = Fraction { n: ONE };
     for k in (1..8).rev() {
         c = one_term(z, c, (2 * k - 1) * (2 * k));
     }

@@ -1,6 +1,6 @@
 -- The ways out of `turn`: refused by question 1 or 2, refused by 8, accepted. Facts on lists alone, of rows whose ends were read (`ends_are`) and that were
 -- looked at (`seen`).
-use Rattle.std.specs.Prelude.{Option, None, Some}
+use Rattle.std.specs.Prelude.{Option, None, Some, Result, Ok}
 use mathlib.Core.Path.{◌≡◌, refl, sym, ap, ap₂, ◌∙◌, subst}
 use Prim.Native.Nat.{ℕ, ◌*◌, ◌≤◌, ◌<◌}
 use native.Mathlib.Omega.{arith}
@@ -9,34 +9,26 @@ use mathlib.Core.Bool.{Bool, true, false, ◌&&◌}
 use mathlib.Core.List.{List, map}
 use lib.Dec.{leb}
 use lib.ListN.{length, get_or, replicate}
-use Rattle.table.specs.Machine as M
 use Rattle.table.specs.Rows.{Watch}
-use Rattle.table.specs.Questions.{most, question1, question2, chain, chains_match, all_sound, find_row}
-use Rattle.table.proofs.Tests.{by_bool, clash, and_1, and_2, leb_true}
+use Rattle.table.specs.Questions.{most, question2, chain, chains_match, all_sound}
+use Rattle.table.proofs.Tests.{clash, and_1, and_2, leb_true}
 use Rattle.table.proofs.Question2.{question_one}
 use Rattle.receiver.specs.declared.Part.{Part}
 use Rattle.receiver.specs.Calls.{unmade_part}
 use Rattle.scans.specs.declared.Key.{Key}
 use Rattle.rows.specs.declared.Row.{Row}
 use Rattle.scans.specs.declared.Ends.{Ends}
-use Rattle.scans.specs.declared.Look.{Look}
-use Rattle.rows.specs.Read.{form, row_is, ends_of, ends_is, watch_of, watch_is, found_is, looked_in, Looked}
-use Rattle.scans.specs.Scan.{is_unfit, number_of}
+use Rattle.table.specs.declared.Refusal.{Refusal}
+use Rattle.table.specs.declared.Refusal.TheVariants as R
+use Rattle.rows.specs.Read.{form, row_is, ends_of, ends_is, watch_of, watch_is, looked_in, Looked}
+use Rattle.scans.specs.Scan.{claimable}
+use Rattle.rows.proofs.Passed.{Passed}
+use Rattle.rows.proofs.Passed as Rows
 use Rattle.rows.proofs.Chains.{rows_long_lem}
-use Rattle.turns.specs.declared.Turned.TheVariants.{Named}
-use Rattle.turns.specs.Turn.{start_of, named_by, named, is_in, is_used, keys_of, written, holds, next_of, question8, refusal, acceptance, turn_on, Tick}
+use Rattle.turns.specs.Turn.{gave, start_of, named_by, named, is_in, is_used, keys_of, written, holds, next_of, question8, refusal, acceptance, turn_on, Tick}
 use Rattle.turns.specs.Passes.{mark_all, passed, keys_long}
 use Rattle.turns.proofs.Numbers.{onward, start_below, onward_is}
 use Rattle.turns.proofs.Passes.{marks_tell, ahead, from_start, all_passed}
-
--- QUESTIONS 1 AND 2
-record Passed (w : Watch Part) : Type 0 where
-  one : question1 form w ≡ true
-  two : question2 form w ≡ true
-
-found_fits : (o : Option ℕ) → is_unfit (found_is o) ≡ false
-found_fits None = refl
-found_fits (Some i) = refl
 
 record Chained (o : Option (List ℕ)) : Type 0 where
   rows : List ℕ
@@ -53,27 +45,8 @@ used_chain w h =
     let f = chain unmade_part w.rows (length w.rows) w.ends.free in
     chained w u f (and_1 (chains_match unmade_part w u f) (all_sound form.sound w.rows) h)
 
-module _ (w : Watch Part) (key : M.Key) (l : Look) (seen : l ≡ looked_in w key) where
-  passes : is_unfit l ≡ false → Passed w
-  passes h =
-      let e : is_unfit (looked_in w key) ≡ false = ap is_unfit (sym seen) ∙ h in
-      by_bool (question1 form w)
-      (λ p. by_bool (question2 form w) (λ q. record { one = p; two = q }) (λ q. clash refl (rw (p, q) at e)))
-      (λ p. clash refl (rw p at e))
-
-  refuses : (next k : ℕ) (list : List ℕ) → is_unfit l ≡ true → refusal list (number_of l) ≡ turn_on form w next k list
-  refuses next k list h =
-      ap (λ (z : Look). refusal list (number_of z)) seen ∙ by_bool (question1 form w)
-      (λ p. by_bool (question2 form w)
-      (λ q. clash (rw (p, q) at e) (found_fits (find_row unmade_part w.rows (length w.rows) key w.ends.head)))
-      (λ q. rw (p, q)))
-      (λ p. rw p)
-    where
-      e : is_unfit (looked_in w key) ≡ true
-      e = ap is_unfit (sym seen) ∙ h
-
 -- A TICK
-module _ (xs : List Row) (ys ws : List ℕ) (e : Ends) (key : Key) (l : Look) (ends_are : ends_of e ≡ ends_is ws) (seen : Looked xs (length ys) e key l) (next k : ℕ) (list : List ℕ) where
+module _ (xs : List Row) (ys ws : List ℕ) (e : Ends) (key : Key) (l : Result ℕ Refusal) (ends_are : ends_of e ≡ ends_is ws) (seen : Looked xs (length ys) e key l) (next k : ℕ) (list : List ℕ) where
   w : Watch Part
   w = watch_of xs ys e
 
@@ -84,18 +57,14 @@ module _ (xs : List Row) (ys ws : List ℕ) (e : Ends) (key : Key) (l : Look) (e
   same_watch : turn_on form w next k list ≡ turn_on form (watch_is xs ys ws) next k list
   same_watch = ap (λ (z : Watch Part). turn_on form z next k list) same
 
-  looked : l ≡ looked_in w key.bytes
+  looked : claimable l ≡ claimable (looked_in w key.bytes)
   unfolding w
-  looked = seen ys refl
-
-  -- questions 1 and 2
-  pub turn_unfit : (t : Bool) (n : ℕ) → t ≡ is_unfit l → t ≡ true → n ≡ number_of l → refusal list n ≡ turn_on form (watch_is xs ys ws) next k list
-  turn_unfit t n test h e = ap (refusal list) e ∙ refuses w key.bytes l looked next k list (sym test ∙ h) ∙ same_watch
+  looked = ap claimable (seen ys refl)
 
   -- they are passed
-  module _ (t : Bool) (n : ℕ) (test : t ≡ is_unfit l) (fit : t ≡ false) (count : n ≡ length xs) where
+  module _ (o : Option ℕ) (n : ℕ) (fit : claimable l ≡ Ok o) (count : n ≡ length xs) where
     pass : Passed w
-    pass = passes w key.bytes l looked (sym test ∙ fit)
+    pass = Rows.passed w key.bytes o (sym looked ∙ fit)
 
     all : n ≡ length w.rows
     unfolding w
@@ -110,7 +79,7 @@ module _ (xs : List Row) (ys ws : List ℕ) (e : Ends) (key : Key) (l : Look) (e
       eight = asked list refl ∙ ap (λ (m : ℕ). question8 m k list) all
 
       -- question 8
-      pub turn_eight : q ≡ false → refusal list 8 ≡ turn_on form (watch_is xs ys ws) next k list
+      pub turn_eight : q ≡ false → refusal list R.Turn ≡ turn_on form (watch_is xs ys ws) next k list
       turn_eight h = (let p = pass.one in let s = pass.two in let u : question8 (length w.rows) k list ≡ false = sym eight ∙ h in rw (p, s, u)) ∙ same_watch
 
       module _ (h : q ≡ true) where
@@ -133,8 +102,8 @@ module _ (xs : List Row) (ys ws : List ℕ) (e : Ends) (key : Key) (l : Look) (e
             ap (λ (z : Watch Part). ahead 0 list (keys_of form z (named n s k)) (onward n k s)) (sym same)
             ∙ ap (λ (i : ℕ). ahead 0 list (keys_of form w (named n i k)) (onward n k i)) es
             ∙ from_start (keys_of form w (named_by n next k)) (onward n k (start_of n next)) list
-            ∙ ap (λ (m : ℕ). record { answer = Named (length (keys_of form w (named_by n next k))) m; list = written (keys_of form w (named_by n next k)) list }) (onward_is n k (start_of n next) (start_below n next some_row))
-            ∙ ap (λ (c : ℕ). record { answer = Named (length (keys_of form w (named_by c next k))) (next_of c next k); list = written (keys_of form w (named_by c next k)) list }) all
+            ∙ ap (λ (m : ℕ). record { answer = gave (length (keys_of form w (named_by n next k))) m; list = written (keys_of form w (named_by n next k)) list }) (onward_is n k (start_of n next) (start_below n next some_row))
+            ∙ ap (λ (c : ℕ). record { answer = gave (length (keys_of form w (named_by c next k))) (next_of c next k); list = written (keys_of form w (named_by c next k)) list }) all
             ∙ accepted ∙ same_watch
           where
             accepted : acceptance form w next k list ≡ turn_on form w next k list

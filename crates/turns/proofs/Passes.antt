@@ -20,8 +20,7 @@ use Rattle.rows.specs.declared.Row.{Row}
 use Rattle.rows.specs.Links.{blank}
 use Rattle.rows.specs.Read.{form, row_is}
 use Rattle.rows.proofs.Chains.{row_is_lem}
-use Rattle.turns.specs.declared.Turned.TheVariants.{Named}
-use Rattle.turns.specs.Turn.{following, named, is_used, keys_of, joined, written, Tick}
+use Rattle.turns.specs.Turn.{gave, following, named, is_used, keys_of, joined, written, Tick}
 use Rattle.turns.specs.Passes.{mark_all, count_after, list_after, passed, keys_long}
 use Rattle.turns.proofs.Numbers.{onward, following_below}
 use Rattle.turns.proofs.Laws.{count_less, list_long}
@@ -84,12 +83,12 @@ module _ (key list : List ℕ) (n : ℕ) (has : length key ≡ 32) (room : 32 * 
 
 -- WHAT IS AHEAD, with n keys given: these keys after them, and the row number that is answered
 unfoldable pub ahead : ℕ → List ℕ → List Key → ℕ → Tick
-ahead n list keys next = record { answer = Named (n + length keys) next; list = take (32 * n) list ++ (joined keys ++ drop (32 * n + length (joined keys)) list) }
+ahead n list keys next = record { answer = gave (n + length keys) next; list = take (32 * n) list ++ (joined keys ++ drop (32 * n + length (joined keys)) list) }
 
 more_keys : (n next : ℕ) (key : Key) (keys : List Key) (list : List ℕ) → length key ≡ 32 → 32 * suc n ≤ length list → ahead (suc n) (sets list (32 * n) key) keys next ≡ ahead n list (key ∷ keys) next
 unfolding ahead put
 more_keys n next key keys list has room =
-    ap₂ {C = Tick} (λ m l. record { answer = Named m next; list = l }) counts
+    ap₂ {C = Tick} (λ m l. record { answer = gave m next; list = l }) counts
     (ap₂ {C = List ℕ} (λ a b. a ++ (joined keys ++ b)) (taken key list n has room) (dropped key list n has room (length (joined keys)) ∙ ap (λ (m : ℕ). drop m list) sum)
     ∙ append_assoc (take (32 * n) list) key (joined keys ++ rest)
     ∙ ap (λ (l : List ℕ). take (32 * n) list ++ l) (sym (append_assoc key (joined keys) rest)))
@@ -104,16 +103,16 @@ more_keys n next key keys list has room =
     rest = drop (32 * n + length (key ++ joined keys)) list
 
 -- from the start of the list
-pub from_start : (keys : List Key) (next : ℕ) (list : List ℕ) → ahead 0 list keys next ≡ record { answer = Named (length keys) next; list = written keys list }
+pub from_start : (keys : List Key) (next : ℕ) (list : List ℕ) → ahead 0 list keys next ≡ record { answer = gave (length keys) next; list = written keys list }
 unfolding ahead
 from_start keys next list =
-    ap₂ {C = Tick} (λ m d. record { answer = Named m next; list = joined keys ++ drop d list }) (zero-add (length keys)) (zero-add (length (joined keys)))
+    ap₂ {C = Tick} (λ m d. record { answer = gave m next; list = joined keys ++ drop d list }) (zero-add (length keys)) (zero-add (length (joined keys)))
 
 -- with no row left
-pub none_ahead : (n next : ℕ) (list : List ℕ) → ahead n list [] next ≡ record { answer = Named n next; list = list }
+pub none_ahead : (n next : ℕ) (list : List ℕ) → ahead n list [] next ≡ record { answer = gave n next; list = list }
 unfolding ahead
 none_ahead n next list =
-    ap₂ {C = Tick} (λ m l. record { answer = Named m next; list = l }) none (ap (λ (m : ℕ). take (32 * n) list ++ drop m list) none₁ ∙ take-append-drop (32 * n) list)
+    ap₂ {C = Tick} (λ m l. record { answer = gave m next; list = l }) none (ap (λ (m : ℕ). take (32 * n) list ++ drop m list) none₁ ∙ take-append-drop (32 * n) list)
   where
     none : n + 0 ≡ n
     none = omega arith

@@ -11,21 +11,24 @@ use lib.ListN.{length}
 use Rattle.table.specs.Rows.{Watch, Form}
 use Rattle.table.specs.Questions.{question1, question2, among}
 use Rattle.table.proofs.Tests.{by_bool, and_1, and_2, eqb_true, leb_true}
-use Rattle.turns.specs.declared.Turned.TheVariants.{Refused, Named}
-use Rattle.turns.specs.Turn.{start_of, named, named_by, next_of, holds, question8, turn_on}
+use Rattle.turns.specs.Turn.{gave, start_of, named, named_by, next_of, holds, question8, turn_on}
+use Rattle.std.specs.Prelude.{Result, Err}
+use Rattle.table.specs.declared.Refusal.{Refusal}
+use Rattle.rows.proofs.Passed.{no_ok, one_ok}
+use Rattle.turns.specs.declared.Turned.{Turned}
 use Rattle.turns.specs.Round.{Ticks, over, tick, ticks_of, EveryRowNamed}
 use Rattle.turns.proofs.Numbers.{onward, onward_is, start_below, start_is, named_more, all_named}
 
 -- A TICK THAT IS ACCEPTED
-refused_named : {X : Type 0} {m count answered : ℕ} → Refused m ≡ Named count answered → X
-refused_named e = let z : ◌≡◌ {A = ℕ} 0 1 = cc in absurd (omega arith)
+refused_named : {X : Type 0} {r : Refusal} {count answered : ℕ} → ◌≡◌ {A = Result Turned Refusal} (Err r) (gave count answered) → X
+refused_named e = no_ok (sym e)
 
 record Accepted (C k next answered : ℕ) : Type 0 where
   from_one : 1 ≤ k
   to_all : k ≤ C
   next_is : next_of C next k ≡ answered
 
-accepted : {P : Type 0} (F : Form P) (w : Watch P) (next k count answered : ℕ) (list : List ℕ) → (turn_on F w next k list).answer ≡ Named count answered → Accepted (length w.rows) k next answered
+accepted : {P : Type 0} (F : Form P) (w : Watch P) (next k count answered : ℕ) (list : List ℕ) → (turn_on F w next k list).answer ≡ gave count answered → Accepted (length w.rows) k next answered
 unfolding question8
 accepted F w next k count answered list e =
     by_bool (question1 F w)
@@ -43,8 +46,8 @@ accepted F w next k count answered list e =
     C : ℕ
     C = length w.rows
 
-    numbers : {m : ℕ} → Named m (next_of C next k) ≡ Named count answered → next_of C next k ≡ answered
-    numbers h = cc
+    numbers : {m : ℕ} → gave m (next_of C next k) ≡ gave count answered → next_of C next k ≡ answered
+    numbers h = ap (λ (t : Turned). t.next) (one_ok h)
 
 module _ {P : Type 0} (F : Form P) (C k : ℕ) where
   -- TICKS IN A ROW

@@ -4,8 +4,7 @@ use Rattle.std.proofs.lemmas.List.Edits.{sets}
 use Rattle.table.specs.Machine.{Key}
 use Rattle.rows.specs.declared.Row.{Row}
 use Rattle.rows.specs.Links.{blank}
-use Rattle.turns.specs.declared.Turned.TheVariants.{Named}
-use Rattle.turns.specs.Turn.{Tick, following}
+use Rattle.turns.specs.Turn.{gave, Tick, following}
 
 -- the rows of a chain marked, one after the other
 abbrev pub mark_all : List ℕ → List Bool → List Bool
@@ -21,7 +20,7 @@ list_after used key n list = cond used (sets list (32 * n) key) list
 
 -- k rows from number `at` on, the keys of the marked ones written after the first n keys of the list
 unfoldable pub passed : List Bool → List Row → ℕ → ℕ → ℕ → ℕ → List ℕ → Tick
-passed marks rows C zero at n list = record { answer = Named n at; list = list }
+passed marks rows C zero at n list = record { answer = gave n at; list = list }
 passed marks rows C (suc k) at n list =
     let used = get_or marks at false in
     passed marks rows C k (following C at) (count_after used n) (list_after used (get_or rows at blank).key n list)

@@ -1,10 +1,11 @@
 -- The turn keeper (02, 'Item 1. Turns for the half-hour round'): one tick, for any lent watch. Definitions only; what a row holds is a parameter, as in `table`.
-use Rattle.std.specs.Prelude.{ℕ, zero, suc, ◌+◌, ◌/◌, ◌%◌, Bool, false, cond, ◌&&◌, List, [], ◌∷◌, ◌++◌, leb, ltb, eqb, length, drop, Option, None, Some}
+use Rattle.std.specs.Prelude.{ℕ, zero, suc, ◌+◌, ◌/◌, ◌%◌, Bool, false, cond, ◌&&◌, List, [], ◌∷◌, ◌++◌, leb, ltb, eqb, length, drop, Option, None, Some, Result, Ok, Err}
 use Rattle.table.specs.Machine.{Key}
 use Rattle.table.specs.Rows.{Watch, Form, row_at}
 use Rattle.table.specs.Questions.{question1, question2, chain, among}
 use Rattle.turns.specs.declared.Turned.{Turned}
-use Rattle.turns.specs.declared.Turned.TheVariants.{Refused, Named}
+use Rattle.table.specs.declared.Refusal.{Refusal}
+use Rattle.table.specs.declared.Refusal.TheVariants as R
 
 -- "A next row number of C or more counts as 0."
 abbrev pub start_of : ℕ → ℕ → ℕ
@@ -57,22 +58,26 @@ question8 C k list = (leb 1 k && leb k C) && leb k (holds list)
 
 -- what a tick answers, and the list as it leaves it; the watch is only read
 pub record Tick : Type 0 where
-  pub answer : Turned
+  pub answer : Result Turned Refusal
   pub list : List ℕ
 
 -- a refusal writes nothing
-abbrev pub refusal : List ℕ → ℕ → Tick
-refusal list n = record { answer = Refused n; list = list }
+abbrev pub refusal : List ℕ → Refusal → Tick
+refusal list r = record { answer = Err r; list = list }
+
+-- how many keys were given, and the next row number
+abbrev pub gave : ℕ → ℕ → Result Turned Refusal
+gave count next = Ok (record { count = count; next = next })
 
 -- "it answers their count and the next row number"
 abbrev pub acceptance : {P : Type 0} → Form P → Watch P → ℕ → ℕ → List ℕ → Tick
 acceptance F w next k list =
     let keys = keys_of F w (named_by (length w.rows) next k) in
-    record { answer = Named (length keys) (next_of (length w.rows) next k); list = written keys list }
+    record { answer = gave (length keys) (next_of (length w.rows) next k); list = written keys list }
 
 -- a tick: questions 1 and 2, and 8 "asked after question 2"
 abbrev pub turn_on : {P : Type 0} → Form P → Watch P → ℕ → ℕ → List ℕ → Tick
 turn_on F w next k list =
     cond (question1 F w)
-    (cond (question2 F w) (cond (question8 (length w.rows) k list) (acceptance F w next k list) (refusal list 8)) (refusal list 2))
-    (refusal list 1)
+    (cond (question2 F w) (cond (question8 (length w.rows) k list) (acceptance F w next k list) (refusal list R.Turn)) (refusal list R.NotInOrder))
+    (refusal list R.Sizes)

@@ -1,24 +1,25 @@
 // The turn keeper (02, Item 1), once for whatever rows are lent as (`chains::Lent`): each tick names the next k rows in ascending number, going round to 0, and gives the keys of
 // those that are used. A row alone does not tell whether it is used, so the used chain is walked once and its rows are marked; then the k rows are passed over.
+// Rows, cells, ends and a tick's words come one by one, since C hands them over so (a); a row is named by its number among those that are lent (a).
 #![tactic(auto)]
 
-ghost use Rattle.std.specs.Prelude.{◌≡◌, List, map, ℕ, ◌+◌, ◌*◌, ◌<◌, ◌≤◌, length, get_or, replicate, true, Some};
+ghost use Rattle.std.specs.Prelude.{◌≡◌, List, map, ℕ, ◌+◌, ◌*◌, ◌<◌, ◌≤◌, length, get_or, true, Some, Ok};
 ghost use Rattle.std.proofs.lemmas.List.Edits.{sets};
 ghost use Rattle.table.specs.Questions.{chain};
 ghost use Rattle.receiver.specs.Calls.{unmade_part};
 ghost use Rattle.rows.specs.Links.{blank};
-ghost use Rattle.rows.specs.Read.{form, row_is, ends_of, ends_is, watch_is};
+ghost use Rattle.rows.specs.Read.{form, row_is, watch_is};
 ghost use Rattle.turns.specs.Turn.{start_of, following, question8, turn_on};
 ghost use Rattle.turns.specs.Passes.{mark_all, count_after, list_after, passed, keys_long};
 
 use chains::Lent;
-use scans::{Ends, Key};
+use table::Refusal;
 
-// What a tick answers: the number of the question that refused it; or how many keys it gave, and the next row number.
+// How many keys a tick gave, and the next row number.
 #[derive(Clone, Copy)]
-pub enum Turned {
-    Refused(u8),
-    Named { count: u32, next: u32 },
+pub struct Turned {
+    pub count: u32,
+    pub next: u32,
 }
 
 // ---- row numbers
@@ -29,6 +30,7 @@ pub fn start(n: usize, next: u32) -> u32
     if (next as usize) < n { next } else { 0 }
 }
 
+// No remainder by n: of a number past the rows the next is past them too (d).
 pub fn following_row(n: usize, at: u32) -> u32
     requires { at < 4096 }
     ensures { result ≡ following n at }
@@ -38,41 +40,32 @@ pub fn following_row(n: usize, at: u32) -> u32
 }
 
 // Question 8: k rows of n, and a list of so many bytes.
+#[tactic(auto, unfolding(crate::specs::Turn::question8))]
 pub fn may_turn(n: usize, k: u32, bytes: usize) -> bool
     ensures { (list : List ℕ) → length list ≡ bytes → result ≡ question8 n k list }
 {
     let most = k as usize;
-    if most < 1 {
-        return false;
-    }
-    if n < most {
-        return false;
-    }
-    most <= bytes / 32
+    1 <= most && most <= n && most <= bytes / 32
 }
 
 // ---- the passes
 
-// The rows of the used chain are marked: a walk along it, where the row that is read names the next.
+// The rows of the used chain are marked: a walk along it, where the row that is read names the next. n is their number: `count` divides (d).
 fn mark_used<W: Lent>(rows: &[W], n: usize, head: u32, marks: &mut [bool; 4096])
     requires { (n ≡ length (W.rows_in rows.now)) × (n ≤ 4096) }
     ensures { (used : List ℕ) → chain unmade_part (map row_is (W.rows_in rows.now)) n head ≡ Some used → marks.new ≡ mark_all used marks.old }
 {
     let mut at = head;
-    let mut left = n;
-    while 0 < left {
+    for done in 0..n {
         if W::outside(rows, at) {
             return;
         }
-        let i = at as usize;
-        marks[i] = true;
-        let links = W::links_at(rows, at);
-        at = links.next;
-        left = left - 1;
+        marks[at as usize] = true;
+        at = W::links_at(rows, at).next;
     }
 }
 
-// A key in the list, from this byte on.
+// A key in the list, from this byte on: C lends one slice of bytes for all keys (a).
 pub fn put_key(list: &mut [u8], at: usize, key: [u8; 32])
     requires { at + 32 ≤ length list.old }
     ensures { list.new ≡ sets list.old at key }
@@ -104,40 +97,18 @@ fn pass<W: Lent>(
     list: &mut [u8],
 ) -> Turned
     requires { (n ≤ 4096) × (first < n) × (32 * k ≤ length list.old) }
-    ensures { (record { answer = result; list = list.new } ≡ passed marks.now (W.rows_in rows.now) n k first 0 list.old) × keys_long marks.now (W.rows_in rows.now) n k first }
+    ensures { (record { answer = Ok result; list = list.new } ≡ passed marks.now (W.rows_in rows.now) n k first 0 list.old) × keys_long marks.now (W.rows_in rows.now) n k first }
 {
     let mut at = first;
-    let mut rest = k;
     let mut count: u32 = 0;
-    while 0 < rest {
-        let i = at as usize;
-        count = give(rows, at, marks[i], count, list);
+    for done in 0..k {
+        count = give(rows, at, marks[at as usize], count, list);
         at = following_row(n, at);
-        rest = rest - 1;
     }
-    Turned::Named {
-        count: count,
-        next: at,
-    }
+    Turned { count, next: at }
 }
 
 // ---- a tick
-
-pub fn ends_of(ends: &[u32; 3]) -> Ends
-    ensures { ends_of result ≡ ends_is ends.now }
-{
-    Ends {
-        head: ends[0],
-        tail: ends[1],
-        free: ends[2],
-    }
-}
-
-pub fn no_key() -> Key
-    ensures { result.bytes ≡ replicate 32 0 }
-{
-    Key { bytes: [0u8; 32] }
-}
 
 // A tick: the next k rows from number `next` on, and the keys of the used ones in the list, 32 bytes each.
 pub fn turn<W: Lent>(
@@ -147,19 +118,17 @@ pub fn turn<W: Lent>(
     next: u32,
     k: u32,
     list: &mut [u8],
-) -> Turned
+) -> Result<Turned, Refusal>
     ensures { record { answer = result; list = list.new } ≡ turn_on form (watch_is (W.rows_in rows.now) cells.now ends.now) next k list.old }
 {
-    let e = ends_of(ends);
-    let l = chains::look_up(rows, cells.len(), e, no_key());
-    if scans::unfit(l) {
-        return Turned::Refused(scans::number_of(l));
-    }
+    let e = rows::ends_of(ends);
+    let look = chains::look_up(rows, cells.len(), e, scans::zero_key());
+    scans::claimable(look)?;
     let n = W::count(rows);
     if !may_turn(n, k, list.len()) {
-        return Turned::Refused(8);
+        return Err(Refusal::Turn);
     }
     let mut marks = [false; 4096];
-    mark_used(rows, n, scans::head_of(e), &mut marks);
-    pass(rows, &marks, n, start(n, next), k, list)
+    mark_used(rows, n, e.head, &mut marks);
+    Ok(pass(rows, &marks, n, start(n, next), k, list))
 }

@@ -28,6 +28,7 @@ pub struct Row {
 }
 
 // The words of a line that were not taken yet. They are separated by single spaces; past the last one they are empty.
+// What a method takes off relates two states of them, so each says it: no field holds it (d).
 #[derive(Clone, Copy)]
 struct Words<'a> {
     rest: &'a [u8],
@@ -47,7 +48,7 @@ fn noted<T: Copy>(word: &[u8], read: Option<T>) -> Result<Option<T>, Unread>
     }
 }
 
-fn whole_in(word: &[u8]) -> Result<Option<u64>, Unread>
+pub fn whole_in(word: &[u8]) -> Result<Option<u64>, Unread>
     ensures { result ≡ whole_in word.now }
 {
     noted(word, numbers::read_whole(word, u64::MAX))

@@ -10,26 +10,26 @@ ghost use Rattle.vectors.specs.Print.{Put, count_text, row_text, shown_by, shown
 use crate::read;
 use crate::replay::Counts;
 use lines::Sink;
-use print::{put, put_decimal};
+use print::Text;
 use std::io::Write;
 
-// A number and what it counts. There is no heap, so a row is put together in a buffer that is lent.
-fn put_count(out: &mut [u8], at: usize, n: u64, what: &[u8]) -> usize
-    ensures { Put out.old at (count_text n what.now) out.new result }
+// A number and what it counts.
+fn put_count(to: &mut Text<'_>, n: u64, what: &[u8])
+    ensures { Put to.old.out.now to.old.n (count_text n what.now) to.new.out.now to.new.n }
 {
-    let end = put_decimal(out, at, n);
-    put(out, end, what)
+    to.put_decimal(n);
+    to.put(what);
 }
 
 // NAME: N vectors, N differ, N unread
-fn put_counts(out: &mut [u8], c: Counts, name: &[u8]) -> usize
-    ensures { Put out.old 0 (row_text c name.now) out.new result }
+fn put_counts(to: &mut Text<'_>, c: Counts, name: &[u8])
+    ensures { Put to.old.out.now to.old.n (row_text c name.now) to.new.out.now to.new.n }
 {
-    let n = put(out, 0, name);
-    let colon = put(out, n, b": ");
-    let vectors = put_count(out, colon, c.vectors, b" vectors, ");
-    let differ = put_count(out, vectors, c.differ, b" differ, ");
-    put_count(out, differ, c.unread, b" unread\n")
+    to.put(name);
+    to.put(b": ");
+    put_count(to, c.vectors, b" vectors, ");
+    put_count(to, c.differ, b" differ, ");
+    put_count(to, c.unread, b" unread\n");
 }
 
 // Where a line is `count NAME`, writes what was counted and answers how many bytes that is.
@@ -41,9 +41,13 @@ pub fn show<W: Write>(to: &mut Sink<W>, c: Counts, t: &[u8]) -> usize
 {
     if fields::same(read::first(t), b"count") {
         let mut out = [0u8; 2048];
-        let n = put_counts(&mut out, c, fields::part(t, 6, t.len()));
-        to.write(fields::part(&out, 0, n));
-        return n;
+        let mut row = Text {
+            out: &mut out,
+            n: 0,
+        };
+        put_counts(&mut row, c, fields::part(t, 6, t.len()));
+        to.write(row.bytes());
+        return row.n;
     }
     0
 }

@@ -6,7 +6,7 @@ ghost use Rattle.verdicts.specs.Verdict as verdict;
 
 use near_field::Judgment;
 
-// What a row keeps of its last judging.
+// What a row keeps of its last judging. It holds no distance, as `Judgment` and `CheckState` do: the three are not one.
 #[derive(Clone, Copy)]
 pub enum Last {
     Unjudged,
@@ -24,7 +24,7 @@ pub struct Verdict {
     pub moved: bool,
 }
 
-// A site's state as said: with the distance, when it is held wrong.
+// A site's state as said: with the distance, when it is held wrong. Three cases, of which one has a value (d).
 #[derive(Clone, Copy)]
 pub enum CheckState {
     Unjudged,
@@ -63,6 +63,7 @@ fn otherwise(v: Verdict, last: Last) -> Verdict
     }
 }
 
+// The judging joins the run: each kind as its own case says (d).
 fn judged_once(v: Verdict, j: Judgment) -> Verdict
     ensures { result ≡ verdict.judged_once v j }
 {
@@ -123,23 +124,17 @@ pub fn ended(v: Option<Verdict>) -> Option<Verdict>
     }
 }
 
-fn plainly(last: Last) -> CheckState
-    ensures { result ≡ verdict.plainly last }
-{
-    match last {
-        Last::Fits => CheckState::Fits,
-        Last::Unjudged => CheckState::Unjudged,
-        Last::Wrong => CheckState::Unjudged,
-    }
-}
-
-// What check says of a verdict.
+// What check says of a verdict: with no distance held, what the last judging found if that was Fits.
 pub fn says(v: Verdict) -> CheckState
     ensures { result ≡ verdict.says_verdict v }
 {
     match v.wrong_by {
         Some(d) => CheckState::Wrong(d),
-        None => plainly(v.last),
+        None => match v.last {
+            Last::Fits => CheckState::Fits,
+            Last::Unjudged => CheckState::Unjudged,
+            Last::Wrong => CheckState::Unjudged,
+        },
     }
 }
 

@@ -17,10 +17,6 @@ use Rattle.view.specs.declared.Far.{Far}
 use Rattle.view.specs.View.{merged_of, merged_at, grid_of, heard_in, Unheard, heard_word, heard_at, bins_of, positions_of, positions_among, far_of}
 
 module _ (cells : List ℕ) (even odd : Bool) where
-  pub grid_length : length (grid_of cells even odd) ≡ 1600
-  unfolding grid_of
-  grid_length = table_length (merged_at cells even odd) 0 1600
-
   pub grid_at : (i : ℕ) → i < 1600 → get_or (grid_of cells even odd) i 0 ≡ merged_at cells even odd i
   unfolding grid_of
   grid_at i l = table_at (merged_at cells even odd) 0 1600 i l
@@ -37,10 +33,6 @@ module _ (cells : List ℕ) (even odd : Bool) where
 pub even_alone : (a b : ℕ) → a < 2 ^ 32 → merged_of true false a b ≡ a
 unfolding merged_of
 even_alone a b h = merged_empty a h
-
-pub odd_alone : (a b : ℕ) → b < 2 ^ 32 → merged_of false true a b ≡ b
-unfolding merged_of
-odd_alone a b h = empty_merged b h
 
 pub neither : (a b : ℕ) → merged_of false false a b ≡ empty_word
 unfolding merged_of
@@ -94,14 +86,6 @@ pub positions_fit : (words : List ℕ) (n : ℕ) → positions_among words n ≤
 unfolding positions_among pass
 positions_fit words zero = omega arith
 positions_fit words (suc n) = omega (arith, positions_fit words n, count_small (get_or words n 0))
-
-pub positions_small : (bins : List ℕ) → positions_of bins ≤ 18360
-unfolding positions_of positions_among
-positions_small bins = positions_fit bins 72
-
-pub far_small : (cells : List ℕ) (even odd : Bool) → (far_of cells even odd).positions ≤ 18360
-unfolding far_of
-far_small cells even odd = positions_small (bins_of cells even odd)
 
 -- what the loops that fill the grid and the bins leave
 pub grid_is : (cells : List ℕ) (even odd : Bool) → table (λ (i : ℕ). merged_at cells even odd (0 + i)) 1600 ≡ grid_of cells even odd

@@ -6,11 +6,27 @@ ghost use Rattle.cells.specs.Cells.{empty_word};
 ghost use Rattle.cells.specs.Passes.{some, table};
 ghost use Rattle.view.specs.View.{kept, merged_at, grid_of, heard_word, heard_in, far_of, occupied_among, positions_among};
 
-// The merged far bins, and how many positions they hold.
+// The merged far bins, and how many positions they hold: one record (01) (a).
 #[derive(Clone, Copy)]
 pub struct Far {
     pub cells: [u32; 72],
     pub positions: u32,
+}
+
+// What was heard, merged: the grid, and the bins past it.
+#[derive(Clone, Copy)]
+pub struct Merged<'a> {
+    pub grid: &'a [u32; 1600],
+    pub far: Far,
+}
+
+// The cells of a row, and which of its halves are merged.
+#[derive(Clone, Copy)]
+pub struct Halves<'a> {
+    pub cells: &'a [u32],
+    pub even: bool,
+    pub odd: bool,
+    pub ghost whole: { length cells.now ≡ 3344 },
 }
 
 // Whether an id is that of now or one less. An id may be any number, the largest too: nothing is added to it.
@@ -38,15 +54,6 @@ fn heard(keep: bool, w: u32) -> u32
     if keep { w } else { cells::empty_word() }
 }
 
-// Cell i of both halves, merged.
-#[tactic(auto, unfolding(crate::specs::View::merged_of, crate::specs::View::merged_at))]
-fn merged_at(cells: &[u32], even: bool, odd: bool, i: usize) -> u32
-    requires { (length cells.now ≡ 3344) × (i < 1672) }
-    ensures { result ≡ merged_at cells.now even odd i }
-{
-    cells::merged_word(heard(even, cells[i]), heard(odd, cells[1672 + i]))
-}
-
 // Whether one of some words is occupied: the bits of all of them together tell.
 pub fn heard_among(words: &[u32]) -> bool
     ensures { result ≡ some (heard_word words.now) (length words.now) }
@@ -65,35 +72,7 @@ fn kept_heard(keep: bool, words: &[u32]) -> bool
     keep && heard_among(words)
 }
 
-// Whether a cell of the merged grid is occupied.
-pub fn grid_heard(cells: &[u32], even: bool, odd: bool) -> bool
-    requires { length cells.now ≡ 3344 }
-    ensures { result ≡ heard_in (grid_of cells.now even odd) }
-{
-    kept_heard(even, &cells[..1600]) || kept_heard(odd, &cells[1672..3272])
-}
-
-// N cells of both halves, from `start` on, merged.
-fn merged_from<const N: usize>(cells: &[u32], even: bool, odd: bool, start: usize) -> [u32; N]
-    requires { (length cells.now ≡ 3344) × (start + N ≤ 1672) }
-    ensures { result ≡ table (λ (i : ℕ). merged_at cells.now even odd (start + i)) N }
-{
-    let mut merged = [0u32; N];
-    for i in 0..N {
-        merged[i] = merged_at(cells, even, odd, start + i);
-    }
-    merged
-}
-
-// The merged grid.
-pub fn grid_view(cells: &[u32], even: bool, odd: bool) -> [u32; 1600]
-    requires { length cells.now ≡ 3344 }
-    ensures { result ≡ grid_of cells.now even odd }
-{
-    merged_from(cells, even, odd, 0)
-}
-
-// How many of some words are occupied.
+// How many of some words are occupied: no more than a grid has.
 pub fn occupied_among(words: &[u32]) -> u32
     requires { length words.now ≤ 1600 }
     ensures { (result ≡ occupied_among words.now (length words.now)) × (result ≤ 1600) }
@@ -119,14 +98,53 @@ pub fn positions_among(words: &[u32]) -> u32
     sum
 }
 
-// The merged far bins with their position total.
-pub fn far_view(cells: &[u32], even: bool, odd: bool) -> Far
-    requires { length cells.now ≡ 3344 }
-    ensures { result ≡ far_of cells.now even odd }
-{
-    let bins = merged_from(cells, even, odd, 1600);
-    Far {
-        cells: bins,
-        positions: positions_among(&bins),
+impl<'a> Halves<'a> {
+    // Cell i of both halves, merged.
+    #[tactic(auto, unfolding(crate::specs::View::merged_of, crate::specs::View::merged_at))]
+    fn merged_at(self, i: usize) -> u32
+        requires { i < 1672 }
+        ensures { result ≡ merged_at self.entry.cells.now self.entry.even self.entry.odd i }
+    {
+        cells::merged_word(
+            heard(self.even, self.cells[i]),
+            heard(self.odd, self.cells[1672 + i]),
+        )
+    }
+
+    // Whether a cell of the merged grid is occupied.
+    pub fn grid_heard(self) -> bool
+        ensures { result ≡ heard_in (grid_of self.entry.cells.now self.entry.even self.entry.odd) }
+    {
+        kept_heard(self.even, &self.cells[..1600]) || kept_heard(self.odd, &self.cells[1672..3272])
+    }
+
+    // N cells of both halves, from `start` on, merged.
+    fn merged_from<const N: usize>(self, start: usize) -> [u32; N]
+        requires { start + N ≤ 1672 }
+        ensures { result ≡ table (λ (i : ℕ). merged_at self.entry.cells.now self.entry.even self.entry.odd (start + i)) N }
+    {
+        let mut merged = [0u32; N];
+        for i in 0..N {
+            merged[i] = self.merged_at(start + i);
+        }
+        merged
+    }
+
+    // The merged grid.
+    pub fn grid_view(self) -> [u32; 1600]
+        ensures { result ≡ grid_of self.entry.cells.now self.entry.even self.entry.odd }
+    {
+        self.merged_from(0)
+    }
+
+    // The merged far bins with their position total.
+    pub fn far_view(self) -> Far
+        ensures { result ≡ far_of self.entry.cells.now self.entry.even self.entry.odd }
+    {
+        let bins = self.merged_from(1600);
+        Far {
+            cells: bins,
+            positions: positions_among(&bins),
+        }
     }
 }

@@ -17,8 +17,7 @@ use Rattle.protection.specs.Promise.{Safe}
 use Rattle.protection.proofs.Promised.{promise}
 use Rattle.rows.specs.declared.Row.{Row}
 use Rattle.rows.specs.Read.{watch_is}
-use Rattle.moves.specs.declared.Answer.{Answer}
-use Rattle.moves.specs.Answers.{answer_is, outcome}
+use Rattle.moves.specs.Answers.{Answer, answer_is, outcome}
 
 -- a call that was run: what it answered, and the rows, cells and ends that it left
 pub record Run : Type 0 where

@@ -1,5 +1,5 @@
 // The siting watch over rows lent as records (01, "the rows are lent as a slice of records": thin entry functions): each of the seven calls of crate `lent`, once more
-// by its name, so that what it promises of records stands here with no type to fill in.
+// by its name, so that what it promises of records stands here with no type to fill in. It has the parameters of that call (a).
 #![tactic(auto)]
 
 ghost use Rattle.std.specs.Prelude.{◌≡◌};

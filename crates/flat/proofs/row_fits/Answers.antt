@@ -4,7 +4,7 @@ use Rattle.std.proofs.Common.{rules}
 use Rattle.flat.proofs.row_fits.Goals as goal
 
 pub returns-then-numbers_fit : goal.returns-then-numbers_fit
-returns-then-numbers_fit c = fits_by_parts _ c.told-words c.fits-words _ (search rules)
+returns-then-numbers_fit c = fits_by_parts _ c.type_inv.words _ (search rules)
 
 pub returns-else-numbers_fit : goal.returns-else-numbers_fit
-returns-else-numbers_fit c = fits_by_parts _ c.told-words c.fits-words _ (search rules)
+returns-else-numbers_fit c = fits_by_parts _ c.type_inv.words _ (search rules)

@@ -10,7 +10,7 @@ returns-then-aircraft-lt15 c =
 pub returns-else-aircraft-lt15 : goal.returns-else-aircraft-lt15
 returns-else-aircraft-lt15 c =
     let s = c.args in
-    by_row s.site s.even s.odd s.cells.now s.now_ms s.aircraft _ _ _ _ c.in-Some.is c.if-aircraft-lt15.false c.kept_at-e.ensures c.kept_at-o.ensures
+    by_row s.site s.even s.odd s.cells.now s.now_ms s.aircraft _ _ _ _ c.in-Some.is c.if-aircraft-lt15.false c.kept_at.ensures c.kept_at-in-Some.ensures
     c.judge_row.ensures
 
 pub returns-in-None : goal.returns-in-None

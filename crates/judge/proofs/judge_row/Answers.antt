@@ -16,8 +16,8 @@ pub returns-then-even : goal.returns-then-even
 unfolding judge_row
 returns-then-even c =
     let s = c.args in
-    c.judge_far.ensures (grid_of s.cells.now s.even s.odd) (unheard _ (sym c.grid_heard.ensures ∙ c.if-grid_heard.false))
-    ∙ ap (judge_cells s.site (grid_of s.cells.now s.even s.odd)) c.far_view-far.ensures
+    c.judge_far.ensures (grid_of s.halves.cells.now s.halves.even s.halves.odd) (unheard _ (sym c.grid_heard.ensures ∙ c.if-grid_heard.false))
+    ∙ ap (judge_cells s.site (grid_of s.halves.cells.now s.halves.even s.halves.odd)) c.far_view-far.ensures
 
 pub returns : goal.returns
-returns c = let s = c.args in nothing_kept s.site s.cells.now s.even s.odd (or_from s.even s.odd c.if-even.false c.if-odd.false)
+returns c = let s = c.args in nothing_kept s.site s.halves.cells.now s.halves.even s.halves.odd (or_from s.halves.even s.halves.odd c.if-even.false c.if-odd.false)

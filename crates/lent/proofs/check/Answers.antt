@@ -1,14 +1,15 @@
--- What is said of the row that was found is the definition's check (`check_so`); no word changes.
+-- What is said of the row that was found is the definition's check (`checked`); no word changes.
+use Rattle.std.proofs.Common.{refl, ap, ◌∙◌}
 use Rattle.receiver.specs.Calls.{check}
-use Rattle.moves.proofs.Entries.{check_so}
-use Rattle.lent.proofs.Laws.{unchanged}
+use Rattle.rows.specs.declared.Row.{Row}
+use Rattle.moves.specs.Answers.{check_answer}
+use Rattle.moves.proofs.Steps.{checked}
 use Rattle.lent.proofs.Exit.{told_call}
 use Rattle.lent.proofs.check.Goals as goal
 
 pub returns : goal.returns
 returns g c =
-    let args = c.args in
-    let e = c.ends_of-e in
-    told_call g.met.W.Lent.leaves c.check_row.result _ _ _ e.new.ends _ _ check
-    (check_so (g.W.Lent.rows_in args.rows.now) args.cells.now args.ends.now e.result args.key c.look_up-l.result e.ensures.0 c.look_up-l.ensures _ _ e.ensures.1 c.check_row.ensures)
-    (unchanged c.check_row.result _)
+    let a = c.args in
+    told_call g.met.W.Lent.leaves _ _ _ a.ends.now c.check_answer.result (λ x q. refl) _ _ check
+    (checked (g.W.Lent.rows_in a.rows.now) a.cells.now a.ends.now c.ends_of-e.result a.key c.look_up.result c.ends_of-e.ensures c.look_up.ensures c.in_ok-i.i c.in_ok-i.was c.check_answer.result
+    (c.check_answer.ensures ∙ ap (λ (x : Row). check_answer x.part.verdict) c.get.ensures))

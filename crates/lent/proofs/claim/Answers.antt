@@ -1,29 +1,57 @@
--- The claim on the rows, the cells emptied and the ends kept are the definition's claim (`claim_so`).
-use Rattle.std.proofs.Common.{refl}
+-- The claim seats the key's row, or is refused by its site, as the definition's is (`claimed_in`, `claim_out`).
+use Rattle.std.proofs.Common.{refl, sym, ap, ◌∙◌, Ok, Err}
 use Rattle.receiver.specs.Calls.{claim}
-use Rattle.moves.proofs.Entries.{claim_room, claim_so}
-use Rattle.moves.proofs.Looked.{fit_site}
-use Rattle.lent.proofs.Laws.{answers_as}
+use Rattle.receiver.specs.declared.Part.{Part}
+use Rattle.rows.specs.Read.{ends_of}
+use Rattle.rows.specs.Links.{seat_of, seated_rows}
+use Rattle.heard.specs.Heard.{site_fits, claimed}
+use Rattle.heard.specs.Answers.{claiming_is}
+use Rattle.bodies.specs.Bodies.{claim_part}
+use Rattle.moves.specs.Answers.{outcome}
+use Rattle.moves.specs.declared.Word.TheVariants as Wd
+use Rattle.moves.proofs.Looked.{claim_site, seat_room}
+use Rattle.rows.proofs.Passed.{no_ok}
+use Rattle.moves.proofs.Steps.{claimed_in, claim_out}
+use Rattle.lent.proofs.Laws.{handed_on}
 use Rattle.lent.proofs.Exit.{told_call}
 use Rattle.lent.proofs.claim.Goals as goal
 
-pub claim_row-m-requires : goal.claim_row-m-requires
-claim_row-m-requires g c =
-    let args = c.args in
+pub set_site-requires : goal.set_site-requires
+set_site-requires g c =
+    let a = c.args in
     let e = c.ends_of-e in
-    λ fit. fit_site (g.W.Lent.rows_in args.rows.now) args.cells.now args.ends.now e.result args.key c.look_up-l.result e.ensures.0 c.look_up-l.ensures fit _ refl
+    let l = c.look_up-look in
+    ap (λ (x : Part). site_fits x.heard.site) c.part_at-part.ensures
+    ∙ claim_site (g.W.Lent.rows_in a.rows.now) a.cells.now a.ends.now e.result a.key l.result e.ensures l.ensures c.in_ok-at.at (sym c.claimable.ensures ∙ c.in_ok-at.was)
 
-pub empty_move-requires : goal.empty_move-requires
-empty_move-requires g c =
-    let args = c.args in
+pub returns-in_err-c : goal.returns-in_err-c
+returns-in_err-c g c =
+    let a = c.args in
     let e = c.ends_of-e in
-    claim_room (g.W.Lent.rows_in args.rows.now) args.cells.now args.ends.now e.result args.key c.look_up-l.result e.ensures.0 c.look_up-l.ensures args.site c.claim_row-m.result _ c.claim_row-m.ensures.0
+    let l = c.look_up-look in
+    let r = c.from_residual-in_err-c in
+    told_call g.met.W.Lent.leaves _ _ _ a.ends.now r.result (λ x q. refl) _ _ (claim a.site)
+    (ap (λ x. outcome x (g.W.Lent.rows_in a.rows.now) a.cells.now a.ends.now) (handed_on r.result c.in_err-c.field-0.0 r.ensures.1)
+    ∙ claim_out (g.W.Lent.rows_in a.rows.now) a.cells.now a.ends.now e.result a.key l.result e.ensures l.ensures a.site c.in_ok-at.at (sym c.claimable.ensures ∙ c.in_ok-at.was) c.in_err-c.field-0.0
+    (λ m. ap (λ x. claiming_is x m) (sym c.in_err-c.was) ∙ c.set_site.ensures m ∙ ap (λ (x : Part). claimed x.heard m a.site) c.part_at-part.ensures))
+
+pub empty_if-requires : goal.empty_if-requires
+empty_if-requires g c =
+    let a = c.args in
+    let e = c.ends_of-e in
+    let l = c.look_up-look in
+    let s = c.insert_active-seat in
+    rw s.ensures.0 (seat_room (g.W.Lent.rows_in a.rows.now) a.cells.now a.ends.now e.result a.key l.result e.ensures l.ensures c.in_ok-at.at (sym c.claimable.ensures ∙ c.in_ok-at.was) c.claim_part.result)
 
 pub returns : goal.returns
 returns g c =
-    let args = c.args in
+    let a = c.args in
     let e = c.ends_of-e in
-    let m = c.claim_row-m in
-    told_call g.met.W.Lent.leaves _ _ _ _ c.keep_move.new.ends _ _ (claim args.site)
-    (claim_so (g.W.Lent.rows_in args.rows.now) args.cells.now args.ends.now e.result args.key c.look_up-l.result e.ensures.0 c.look_up-l.ensures args.site m.result _ _ c.keep_move.new.ends _ m.ensures.0 c.empty_move.ensures c.keep_move.ensures c.answer_of.ensures)
-    (answers_as _ _ _ _ c.answer_of.ensures m.ensures.1)
+    let l = c.look_up-look in
+    let s = c.insert_active-seat in
+    let xs = g.W.Lent.rows_in a.rows.now in
+    let part = c.claim_part.ensures ∙ ap (λ (x : Part). claim_part x c.in_ok-c.c) c.part_at-part.ensures in
+    told_call g.met.W.Lent.leaves _ _ _ c.keep.new.ends (Ok (Wd.Generation c.in_ok-c.c.heard.generation s.result.pushed)) (λ x q. no_ok q) _ _ (claim a.site)
+    (claimed_in xs a.cells.now a.ends.now e.result a.key l.result e.ensures l.ensures a.site c.in_ok-at.at (sym c.claimable.ensures ∙ c.in_ok-at.was) c.in_ok-c.c
+    (λ m. ap (λ x. claiming_is x m) (sym c.in_ok-c.was) ∙ c.set_site.ensures m ∙ ap (λ (x : Part). claimed x.heard m a.site) c.part_at-part.ensures) _ _ c.keep.new.ends s.result
+    (s.ensures.0 ∙ ap (seat_of xs e.result c.in_ok-at.at) part) (s.ensures.1 ∙ ap (seated_rows xs e.result c.in_ok-at.at a.key) part) c.empty_if.ensures c.keep.ensures)

@@ -1,20 +1,26 @@
--- The first of the used chain is freed, or the first no is said (`drop_so`).
-use Rattle.moves.proofs.Entries.{drop_room, drop_so}
-use Rattle.lent.proofs.Laws.{answers_as}
+-- The first of the used chain is freed, as the definition's drop-oldest frees it (`dropped_one`), or none is used (`drop_none`).
+use Rattle.std.proofs.Common.{sym, ◌∙◌}
+use Rattle.moves.proofs.Looked.{claim_passed, head_room}
+use Rattle.moves.proofs.Steps.{dropped_one}
+use Rattle.lent.proofs.Laws.{accepts}
 use Rattle.lent.proofs.Exit.{told_drop}
 use Rattle.lent.proofs.drop_oldest.Goals as goal
 
-pub empty_move-requires : goal.empty_move-requires
-empty_move-requires g c =
-    let args = c.args in
+pub free-requires : goal.free-requires
+free-requires g c =
+    let a = c.args in
     let e = c.ends_of-e in
-    drop_room (g.W.Lent.rows_in args.rows.now) args.cells.now args.ends.now e.result c.zero_key-k.result c.look_up-l.result e.ensures.0 c.look_up-l.ensures c.oldest_of-o.result c.remove-m.result c.oldest_of-o.ensures c.remove-m.ensures.0
+    let l = c.look_up-look in
+    let o = c.in_ok-claimable in
+    let pass = claim_passed (g.W.Lent.rows_in a.rows.now) a.cells.now a.ends.now e.result c.zero_key.result l.result e.ensures l.ensures o.field-0 (sym c.claimable.ensures ∙ o.was) in
+    head_room (g.W.Lent.rows_in a.rows.now) a.cells.now a.ends.now e.result c.zero_key.result l.result e.ensures l.ensures pass (sym c.is_none.ensures ∙ c.if-is_none.false)
 
 pub returns : goal.returns
 returns g c =
-    let args = c.args in
+    let a = c.args in
     let e = c.ends_of-e in
-    let m = c.remove-m in
-    told_drop g.met.W.Lent.leaves _ _ _ _ c.keep_move.new.ends _
-    (drop_so (g.W.Lent.rows_in args.rows.now) args.cells.now args.ends.now e.result c.zero_key-k.result c.look_up-l.result e.ensures.0 c.look_up-l.ensures c.oldest_of-o.result m.result _ _ c.keep_move.new.ends _ c.oldest_of-o.ensures (m.ensures.0, m.ensures.1) c.empty_move.ensures c.keep_move.ensures c.answer_of.ensures)
-    (answers_as _ _ _ _ c.answer_of.ensures m.ensures.2)
+    let l = c.look_up-look in
+    let o = c.in_ok-claimable in
+    let f = c.free in
+    told_drop g.met.W.Lent.leaves _ _ _ f.new.ends f.result (accepts _ _ f.ensures.0) _
+    (dropped_one (g.W.Lent.rows_in a.rows.now) a.cells.now a.ends.now e.result c.zero_key.result l.result e.ensures l.ensures o.field-0 (sym c.claimable.ensures ∙ o.was) (sym c.is_none.ensures ∙ c.if-is_none.false) _ _ f.new.ends f.result f.ensures.0 f.ensures.1 f.ensures.2 f.ensures.3)

@@ -1,20 +1,40 @@
--- The judgment of the row's cells, and the row that keeps it, are the definition's judging (`judging_so`).
-use Rattle.receiver.specs.Calls.{judging}
-use Rattle.moves.proofs.Entries.{due_room, judging_so}
+-- The row that was found is judged by its cells and keeps the judgment, or it is too soon, as in the definition's judging (`judged`, `undue`).
+use Rattle.std.proofs.Common.{refl, sym, ap, ◌∙◌, ◌*◌, Ok, Err}
+use Rattle.receiver.specs.Calls.{judging, judging_of, judged_part}
+use Rattle.rows.specs.declared.Row.{Row}
+use Rattle.rows.specs.Links.{parted_rows}
+use Rattle.heard.specs.Heard.{width}
+use lib.ListN.{take, drop}
+use Rattle.verdicts.specs.Verdict.{too_soon}
+use Rattle.table.specs.declared.Refusal.TheVariants as R
+use Rattle.moves.specs.declared.Word.TheVariants as Wd
+use Rattle.moves.proofs.Looked.{held_room}
+use Rattle.rows.proofs.Passed.{no_ok}
+use Rattle.moves.proofs.Steps.{judged, undue}
 use Rattle.lent.proofs.Exit.{told_call}
 use Rattle.lent.proofs.judging.Goals as goal
 
-pub judge_at-j-requires : goal.judge_at-j-requires
-judge_at-j-requires g c =
-    let args = c.args in
+pub returns-then-too_soon : goal.returns-then-too_soon
+returns-then-too_soon g c =
+    let a = c.args in
     let e = c.ends_of-e in
-    due_room (g.W.Lent.rows_in args.rows.now) args.cells.now args.ends.now e.result args.key c.look_up-l.result e.ensures.0 c.look_up-l.ensures args.now_ms c.due_at-d.result c.due_at-d.ensures
+    told_call g.met.W.Lent.leaves _ _ _ a.ends.now (Err R.TooSoon) (λ x q. refl) _ _ (judging a.now_ms a.aircraft)
+    (undue (g.W.Lent.rows_in a.rows.now) a.cells.now a.ends.now e.result a.key c.look_up.result e.ensures c.look_up.ensures c.in_ok-i.i c.in_ok-i.was a.now_ms a.aircraft
+    (ap (λ (x : Row). too_soon x.part.judged_ms a.now_ms) (sym c.get.ensures) ∙ sym c.too_soon.ensures ∙ c.if-too_soon.true))
+
+pub judge_cells-j-requires : goal.judge_cells-j-requires
+judge_cells-j-requires g c =
+    let a = c.args in
+    let e = c.ends_of-e in
+    held_room (g.W.Lent.rows_in a.rows.now) a.cells.now a.ends.now e.result a.key c.look_up.result e.ensures c.look_up.ensures c.in_ok-i.i c.in_ok-i.was
 
 pub returns : goal.returns
 returns g c =
-    let args = c.args in
+    let a = c.args in
     let e = c.ends_of-e in
-    let r = c.judge_row in
-    told_call g.met.W.Lent.leaves _ _ _ _ e.new.ends _ _ (judging args.now_ms args.aircraft)
-    (judging_so (g.W.Lent.rows_in args.rows.now) args.cells.now args.ends.now e.result args.key c.look_up-l.result e.ensures.0 c.look_up-l.ensures args.now_ms args.aircraft c.due_at-d.result c.heard_at-h.result c.judge_at-j.result _ _ _ c.due_at-d.ensures c.heard_at-h.ensures c.judge_at-j.ensures (r.ensures.0, r.ensures.1) e.ensures.1)
-    r.ensures.2
+    let j = c.judge_cells-j in
+    told_call g.met.W.Lent.leaves _ _ _ a.ends.now (Ok (Wd.Judged j.result)) (λ x q. no_ok q) _ _ (judging a.now_ms a.aircraft)
+    (judged (g.W.Lent.rows_in a.rows.now) a.cells.now a.ends.now e.result a.key c.look_up.result e.ensures c.look_up.ensures c.in_ok-i.i c.in_ok-i.was a.now_ms a.aircraft
+    (ap (λ (x : Row). too_soon x.part.judged_ms a.now_ms) (sym c.get.ensures) ∙ sym c.too_soon.ensures ∙ c.if-too_soon.false) j.result
+    (j.ensures ∙ ap (λ (x : Row). judging_of x.part.heard (take width (drop (width * c.in_ok-i.i) a.cells.now)) a.now_ms a.aircraft) c.get.ensures) _
+    (c.set_part.ensures ∙ ap (parted_rows (g.W.Lent.rows_in a.rows.now) c.in_ok-i.i) (c.judged_part.ensures ∙ ap (λ (x : Row). judged_part x.part a.now_ms j.result) c.get.ensures)))

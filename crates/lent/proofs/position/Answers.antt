@@ -1,29 +1,53 @@
--- The position on the rows and in the cells is the definition's position (`position_so`).
-use Rattle.std.proofs.Common.{refl}
+-- The position is counted for the row that was found, or turned down, as the definition's is (`heard_so`, `not_heard`).
+use Rattle.std.proofs.Common.{refl, sym, ap, subst, ◌∙◌, Ok}
 use Rattle.receiver.specs.Calls.{position}
-use Rattle.moves.proofs.Entries.{position_room, position_so}
-use Rattle.moves.proofs.Looked.{held_site}
-use Rattle.lent.proofs.Laws.{answers_as}
+use Rattle.rows.specs.declared.Row.{Row}
+use Rattle.rows.specs.Read.{ends_of}
+use Rattle.rows.specs.Links.{marked_ends, marked_rows}
+use Rattle.heard.specs.Heard.{site_fits, positioned}
+use Rattle.heard.specs.Answers.{hearing_is, HearingFits}
+use Rattle.moves.specs.Answers.{outcome}
+use Rattle.moves.specs.declared.Word.TheVariants as Wd
+use Rattle.moves.proofs.Looked.{held_room, held_site}
+use Rattle.rows.proofs.Passed.{no_ok}
+use Rattle.moves.proofs.Steps.{heard_part, heard_so, not_heard}
+use Rattle.lent.proofs.Laws.{handed_on}
 use Rattle.lent.proofs.Exit.{told_call}
 use Rattle.lent.proofs.position.Goals as goal
 
-pub hear_row-c-requires : goal.hear_row-c-requires
-hear_row-c-requires g c =
-    let args = c.args in
+pub hear-requires : goal.hear-requires
+hear-requires g c =
+    let a = c.args in
     let e = c.ends_of-e in
-    λ held. held_site (g.W.Lent.rows_in args.rows.now) args.cells.now args.ends.now e.result args.key c.look_up-l.result e.ensures.0 c.look_up-l.ensures held _ refl
+    ap (λ (x : Row). site_fits x.part.heard.site) c.get.ensures
+    ∙ held_site (g.W.Lent.rows_in a.rows.now) a.cells.now a.ends.now e.result a.key c.look_up.result e.ensures c.look_up.ensures c.in_ok-i.i c.in_ok-i.was
 
-pub count_at-requires : goal.count_at-requires
-count_at-requires g c =
-    let args = c.args in
+pub returns-in_err-c : goal.returns-in_err-c
+returns-in_err-c g c =
+    let a = c.args in
     let e = c.ends_of-e in
-    position_room (g.W.Lent.rows_in args.rows.now) args.cells.now args.ends.now e.result args.key c.look_up-l.result e.ensures.0 c.look_up-l.ensures args.p c.hear_row-c.result _ c.hear_row-c.ensures.0
+    let r = c.from_residual-in_err-c in
+    told_call g.met.W.Lent.leaves _ _ _ a.ends.now r.result (λ x q. refl) _ _ (position a.p)
+    (ap (λ x. outcome x (g.W.Lent.rows_in a.rows.now) a.cells.now a.ends.now) (handed_on r.result c.in_err-c.field-0.0 r.ensures.1)
+    ∙ not_heard (g.W.Lent.rows_in a.rows.now) a.cells.now a.ends.now e.result a.key c.look_up.result e.ensures c.look_up.ensures c.in_ok-i.i c.in_ok-i.was a.p c.in_err-c.field-0.0
+    (λ m. ap (λ x. hearing_is x m) (sym c.in_err-c.was) ∙ c.hear.ensures.0 m ∙ ap (λ (x : Row). positioned x.part.heard m a.p) c.get.ensures))
+
+pub count_in-requires : goal.count_in-requires
+count_in-requires g c =
+    let a = c.args in
+    let e = c.ends_of-e in (
+      held_room (g.W.Lent.rows_in a.rows.now) a.cells.now a.ends.now e.result a.key c.look_up.result e.ensures c.look_up.ensures c.in_ok-i.i c.in_ok-i.was,
+      subst HearingFits c.in_ok-c.was c.hear.ensures.1,
+    )
 
 pub returns : goal.returns
 returns g c =
-    let args = c.args in
+    let a = c.args in
     let e = c.ends_of-e in
-    let h = c.hear_row-c in
-    told_call g.met.W.Lent.leaves _ _ _ _ c.keep_count.new.ends _ _ (position args.p)
-    (position_so (g.W.Lent.rows_in args.rows.now) args.cells.now args.ends.now e.result args.key c.look_up-l.result e.ensures.0 c.look_up-l.ensures args.p h.result _ _ c.keep_count.new.ends _ h.ensures.0 c.count_at.ensures c.keep_count.ensures c.answered.ensures)
-    (answers_as _ _ _ _ c.answered.ensures h.ensures.1)
+    let xs = g.W.Lent.rows_in a.rows.now in
+    let old = ap (λ (x : Row). heard_part x.part c.in_ok-c.c.heard) c.get.ensures in
+    told_call g.met.W.Lent.leaves _ _ _ c.keep.new.ends (Ok Wd.Done) (λ x q. no_ok q) _ _ (position a.p)
+    (heard_so xs a.cells.now a.ends.now e.result a.key c.look_up.result e.ensures c.look_up.ensures c.in_ok-i.i c.in_ok-i.was a.p c.in_ok-c.c
+    (λ m. ap (λ x. hearing_is x m) (sym c.in_ok-c.was) ∙ c.hear.ensures.0 m ∙ ap (λ (x : Row). positioned x.part.heard m a.p) c.get.ensures) _ _ c.keep.new.ends
+    (c.mark-d.ensures.1 ∙ ap (marked_rows xs e.result c.in_ok-i.i) old) c.count_in.ensures
+    (c.keep.ensures ∙ ap ends_of (c.mark-d.ensures.0 ∙ ap (marked_ends xs e.result c.in_ok-i.i) old)))

@@ -1,5 +1,5 @@
 -- A word at a turn is `among_one`; one that is not occupied changes nothing (`among_none`), and once all positions were seen none is left that is (`all_nearest`).
-use Rattle.std.proofs.Common.{◌≡◌, get_or, sym, ◌∙◌, arith, rules}
+use Rattle.std.proofs.Common.{◌≡◌, get_or, sym, ◌∙◌, arith}
 use Rattle.cells.proofs.Words.{count_small}
 use Rattle.nearest.specs.Counted.{bin_spot}
 use Rattle.view.proofs.Views.{positions_fit}

@@ -1,5 +1,5 @@
 -- A word at a turn is `among_one`; one that is not occupied changes nothing (`among_none`).
-use Rattle.std.proofs.Common.{◌≡◌, sym, ◌∙◌, arith, rules}
+use Rattle.std.proofs.Common.{◌≡◌, sym, ◌∙◌, arith}
 use Rattle.nearest.specs.Counted.{cell_spot}
 use Rattle.nearest.proofs.Two.{among_start, among_one, among_none}
 use Rattle.nearest.proofs.nearest_cells.Goals as goal

@@ -1,5 +1,5 @@
 -- A word at a turn is `gather_next`; one that is not occupied changes nothing (`gather_none`), and once all positions were seen none is left that is (`all_gathered_by`).
-use Rattle.std.proofs.Common.{◌≡◌, ℕ, List, get_or, sym, ap, ◌∙◌, arith, rules}
+use Rattle.std.proofs.Common.{◌≡◌, ℕ, List, get_or, sym, ap, ◌∙◌, arith}
 use borrow.Author.Tests.{ltb-false}
 use Rattle.cells.specs.Cells.{count_of}
 use Rattle.cells.specs.Passes.{pass}

@@ -21,31 +21,31 @@ sum_is grid far e p f q = let a = whole grid 1600 e p in let b = whole far.cells
 pub returns-then-total-lt60 : goal.returns-then-total-lt60
 returns-then-total-lt60 c =
     let s = c.args in
-    few_positions s.grid.now s.far _
-    (sum_is s.grid.now s.far (omega arith) c.positions_among-inside.ensures.0 (omega arith) c.positions_among-past.ensures.0) c.if-total-lt60.true
+    few_positions s.m.grid.now s.m.far _
+    (sum_is s.m.grid.now s.m.far (omega arith) c.positions_among-inside.ensures.0 (omega arith) c.positions_among-past.ensures.0) c.if-total-lt60.true
 
 pub third_is_near-requires : goal.third_is_near-requires
 third_is_near-requires c =
     let s = c.args in
-    let sum = sum_is s.grid.now s.far (omega arith) c.positions_among-inside.ensures.0 (omega arith) c.positions_among-past.ensures.0 in
+    let sum = sum_is s.m.grid.now s.m.far (omega arith) c.positions_among-inside.ensures.0 (omega arith) c.positions_among-past.ensures.0 in
     omega (arith, c.if-total-lt60.false)
 
 pub returns-then-third_is_near : goal.returns-then-third_is_near
 returns-then-third_is_near c =
     let s = c.args in
-    some_near s.grid.now s.far _
-    (sum_is s.grid.now s.far (omega arith) c.positions_among-inside.ensures.0 (omega arith) c.positions_among-past.ensures.0) c.if-total-lt60.false
+    some_near s.m.grid.now s.m.far _
+    (sum_is s.m.grid.now s.m.far (omega arith) c.positions_among-inside.ensures.0 (omega arith) c.positions_among-past.ensures.0) c.if-total-lt60.false
     _ c.third_is_near.ensures c.if-third_is_near.true
 
 pub steps_from_third-k-requires : goal.steps_from_third-k-requires
 steps_from_third-k-requires c =
     let s = c.args in (
-      s.grid.now,
-      s.far,
+      s.m.grid.now,
+      s.m.far,
       (
         c.with_bins.ensures _ c.cell_steps.ensures,
-        sum_is s.grid.now s.far (omega arith) c.positions_among-inside.ensures.0 (omega arith) c.positions_among-past.ensures.0,
-        c.nearest_bins-near.ensures ∙ bins_nearest s.grid.now s.far _ (c.nearest_cells.ensures ∙ cells_nearest s.grid.now s.far),
+        sum_is s.m.grid.now s.m.far (omega arith) c.positions_among-inside.ensures.0 (omega arith) c.positions_among-past.ensures.0,
+        c.nearest_bins-near.ensures ∙ bins_nearest s.m.grid.now s.m.far _ (c.nearest_cells.ensures ∙ cells_nearest s.m.grid.now s.m.far),
         omega (arith, c.if-total-lt60.false),
       ),
     )
@@ -53,12 +53,12 @@ steps_from_third-k-requires c =
 pub returns : goal.returns
 returns c =
     let s = c.args in
-    let sum = sum_is s.grid.now s.far (omega arith) c.positions_among-inside.ensures.0 (omega arith) c.positions_among-past.ensures.0 in
-    is_off s.grid.now s.far _ sum c.if-total-lt60.false _ c.third_is_near.ensures c.if-third_is_near.false _ _
+    let sum = sum_is s.m.grid.now s.m.far (omega arith) c.positions_among-inside.ensures.0 (omega arith) c.positions_among-past.ensures.0 in
+    is_off s.m.grid.now s.m.far _ sum c.if-total-lt60.false _ c.third_is_near.ensures c.if-third_is_near.false _ _
     (c.steps_from_third-k.ensures.0 _ _ (
       c.with_bins.ensures _ c.cell_steps.ensures,
       sum,
-      c.nearest_bins-near.ensures ∙ bins_nearest s.grid.now s.far _ (c.nearest_cells.ensures ∙ cells_nearest s.grid.now s.far),
+      c.nearest_bins-near.ensures ∙ bins_nearest s.m.grid.now s.m.far _ (c.nearest_cells.ensures ∙ cells_nearest s.m.grid.now s.m.far),
       omega (arith, c.if-total-lt60.false),
     ))
     c.steps_km.ensures

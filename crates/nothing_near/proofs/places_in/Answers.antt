@@ -8,8 +8,8 @@ pub returns : goal.returns
 unfolding places
 returns c =
     let s = c.args in
-    let cells : length s.grid.now ≡ 1600 = omega arith in
-    let bins : length s.far.cells ≡ 72 = omega arith in
+    let cells : length s.m.grid.now ≡ 1600 = omega arith in
+    let bins : length s.m.far.cells ≡ 72 = omega arith in
     let a = rw cells at c.occupied_among.ensures.0 in
     let b = rw bins at c.occupied_among-2.ensures.0 in
-    omega (arith, places_counted s.grid.now s.far)
+    omega (arith, places_counted s.m.grid.now s.m.far)

@@ -1,5 +1,5 @@
 -- Where the loop stops is the first number of steps that is reached (`found_steps`).
-use Rattle.std.proofs.Common.{◌≡◌, suc, sym, arith, rules, below_none, below_more}
+use Rattle.std.proofs.Common.{◌≡◌, suc, sym, arith, below_none, below_more}
 use Rattle.nearest.proofs.Gathered.{below_zero, below_suc, below_plus}
 use Rattle.nothing_near.proofs.Typical.{found_steps, reached_yes, reached_not}
 use Rattle.nothing_near.proofs.typical_steps.Goals as goal

@@ -9,4 +9,4 @@ pub returns : goal.returns
 unfolding outside_of
 returns c =
     ap (λ (n : ℕ). leb n 4)
-    (c.sectors.ensures.0 ∙ ap sectors_in (c.bin_marks.ensures (λ (k : ℕ). some (cell_in c.args.grid.now k) 1600) c.cell_marks.ensures))
+    (c.sectors.ensures.0 ∙ ap sectors_in (c.bin_marks.ensures (λ (k : ℕ). some (cell_in c.args.m.grid.now k) 1600) c.cell_marks.ensures))

@@ -32,12 +32,12 @@ whole_rest a m s h k l j = omega arith
 
 pub returns : goal.returns
 returns c =
-    let p = c.args.p in
+    let p = c.args.p.n in
     let q = c.in_ok-q.q in
     let s = q / 2 ^ 26 in
     let t = q % 2 ^ 26 in
     let within : (2 ^ 52 ≤ q) × (q < 2 ^ 53) = c.in_ok-q.ensures in
     let small = within.1 in
     set_right p q s t _ _ (omega arith) (omega (arith, within.0)) (omega arith)
-    (whole_left p (s * s) c.if-left.false c.requires.1 (ss_le q small))
+    (whole_left p (s * s) c.if-left.false c.args.p.high (ss_le q small))
     (whole_rest _ (s * t) s c.if-w-s.false (s_le q small) (st_le q small) (omega (arith, c.if-left.false, s_le q small))) c.if-w-s.false

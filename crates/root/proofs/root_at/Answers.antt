@@ -29,18 +29,18 @@ small : (b n : ℕ) → n ≡ nearest ((b % 2 ^ 52 + 2 ^ 52) * ((b / 2 ^ 52 + 51
 small b n e = subst (λ (r : ℕ). r ≤ 2 ^ 53) (sym e) (nearest_le ((b % 2 ^ 52 + 2 ^ 52) * ((b / 2 ^ 52 + 51) % 2 + 1)) (twice_at_most (b % 2 ^ 52 + 2 ^ 52) ((b / 2 ^ 52 + 51) % 2) (omega arith) (omega arith)))
 
 pub overflow_add-result-2 : goal.overflow_add-result-2
-overflow_add-result-2 c = omega (arith, c.requires.1, small c.args.b c.args.n c.requires.2)
+overflow_add-result-2 c = omega (arith, c.args.b.below_infinity, small c.args.b.bits c.args.n c.requires)
 
 pub float_from_bits-result : goal.float_from_bits-result
-float_from_bits-result c = pattern_no_nan _ (omega (arith, c.requires.1, small c.args.b c.args.n c.requires.2))
+float_from_bits-result c = pattern_no_nan _ (omega (arith, c.args.b.below_infinity, small c.args.b.bits c.args.n c.requires))
 
 pub returns : goal.returns
 returns c =
-    let b = c.args.b in
+    let b = c.args.b.bits in
     let e = b / 2 ^ 52 in
     let t = b % 2 ^ 52 in
-    let low = c.requires.0 in
-    let high = c.requires.1 in
+    let low = c.args.b.above_subnormals in
+    let high = c.args.b.below_infinity in
     ap (λ (y : ℕ). of_bits binary64 (y * 2 ^ 52 + c.args.n)) (half e)
-    ∙ pattern_of ((t + 2 ^ 52) * 2 ^ (e - 1)) (t + 2 ^ 52) (e + 51) c.args.n (omega arith) (omega arith) (shift (t + 2 ^ 52) b low) (omega (arith, high)) c.requires.2
+    ∙ pattern_of ((t + 2 ^ 52) * 2 ^ (e - 1)) (t + 2 ^ 52) (e + 51) c.args.n (omega arith) (omega arith) (shift (t + 2 ^ 52) b low) (omega (arith, high)) c.requires
     ∙ sym (normal (of_bits binary64 b) b (of_pattern b (omega (arith, high))) (e - 1) (place b low) (λ q. not_last b high (place b low ∙ q)))

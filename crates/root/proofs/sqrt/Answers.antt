@@ -35,7 +35,7 @@ root_pattern-requires c =
     let x = c.args.x in
     let f : T (fits binary64 x) = subst T (sym c.well_formed.0.1) tt in
     let p : 0 < to_bits binary64 x % 2 ^ 52 = subnormal_pos x (to_bits binary64 x) (pattern x f c.if-x.true) (is_above x f c.if-x.true) c.if-e-eq0.true in
-    (omega (arith, p), omega arith, omega arith, omega (arith, p))
+    (omega arith, omega arith, omega (arith, p))
 
 pub float_from_bits-result : goal.float_from_bits-result
 float_from_bits-result c = pattern_no_nan c.root_pattern.result c.root_pattern.ensures.1
@@ -53,19 +53,16 @@ returns-then-e-eq2047 c =
     let f : T (fits binary64 x) = subst T (sym c.well_formed.0.1) tt in
     sym (infinite x (to_bits binary64 x) (pattern x f c.if-x.true) (is_above x f c.if-x.true) c.if-e-eq2047.true)
 
-pub digits-p-requires : goal.digits-p-requires
-digits-p-requires c = normal_high c.args.x (subst T (sym c.well_formed.0.1) tt) c.if-x.true c.if-e-eq2047.false
-
-pub guess-requires : goal.guess-requires
-guess-requires c = normal_high c.args.x (subst T (sym c.well_formed.0.1) tt) c.if-x.true c.if-e-eq2047.false
+pub invariant_of-b : goal.invariant_of-b
+invariant_of-b c = record {
+  above_subnormals = above_subnormals (to_bits binary64 c.args.x) c.if-e-eq0.false;
+  below_infinity = normal_high c.args.x (subst T (sym c.well_formed.0.1) tt) c.if-x.true c.if-e-eq2047.false;
+}
 
 pub root_at-requires : goal.root_at-requires
 root_at-requires c =
-    let n : c.unwrap_or_else.result ≡ nearest c.digits-p.result = search rules in (
-      above_subnormals (to_bits binary64 c.args.x) c.if-e-eq0.false,
-      normal_high c.args.x (subst T (sym c.well_formed.0.1) tt) c.if-x.true c.if-e-eq2047.false,
-      n ∙ ap nearest c.digits-p.ensures.0,
-    )
+    let n : c.unwrap_or_else.result ≡ nearest c.digits-p.result.n = search rules in
+    n ∙ ap nearest c.digits-p.ensures
 
 pub returns-then-x : goal.returns-then-x
 returns-then-x c = c.root_at.ensures ∙ as_read c.args.x (subst T (sym c.well_formed.0.1) tt) c.if-x.true

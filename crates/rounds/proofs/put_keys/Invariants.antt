@@ -1,7 +1,7 @@
 -- The keys before i are put.
-use Rattle.answers.specs.Answers.{Wrote}
+use Rattle.answers.specs.Answers.{Adds}
 use Rattle.rounds.specs.Rounds.{keys_text}
 use Rattle.rounds.proofs.put_keys.Given as goal
 
 abbrev pub invariant-loop-i : goal.invariant-loop-i
-invariant-loop-i l = Wrote l.initial.out l.n (keys_text l.i l.list) l.out l.at
+invariant-loop-i l = Adds l.initial.to (keys_text l.i l.list) l.to

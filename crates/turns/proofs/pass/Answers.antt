@@ -1,27 +1,36 @@
 -- `turns::pass` meets its contract: a row passed over leaves what the rest comes to, and with no row left that is what was given.
-use Rattle.std.proofs.Common.{ℕ, ◌<◌, ◌≤◌, false, get_or, sym, subst, ◌∙◌, arith}
+use Rattle.std.proofs.Common.{◌≡◌, ℕ, ◌<◌, ◌≤◌, ◌-◌, ◌+◌, false, get_or, sym, ap, subst, ◌∙◌, arith}
 use Rattle.rows.specs.Links.{blank}
+use Rattle.turns.specs.Passes.{passed, keys_long}
 use Rattle.turns.proofs.Numbers.{following_below}
-use Rattle.turns.proofs.Laws.{pass_goes, pass_ends, count_stays, list_stays}
+use Rattle.turns.proofs.Laws.{pass_goes, pass_ends, count_less, list_stays}
 use Rattle.turns.proofs.Passes.{long_goes, no_key_left}
 use Rattle.turns.proofs.pass.Goals as goal
 
-pub loop-rest-preserved : goal.loop-rest-preserved
-loop-rest-preserved g c =
-    let at-loop = c.loop-rest in
-    let inv = at-loop.invariant in
-    let more : 0 < at-loop.rest = c.loop-rest-test.true in
-    let used = get_or c.args.marks.now at-loop.at false in (
-      pass_goes c.args.marks.now (g.W.Lent.rows_in c.args.rows.now) c.args.n at-loop.rest at-loop.at at-loop.count at-loop.list _ _ _ more c.following_row-at.ensures c.give-count.ensures.0 c.give-count.ensures.1 ∙ inv.0,
-      subst (λ (i : ℕ). i < c.args.n) (sym c.following_row-at.ensures) (following_below c.args.n at-loop.at inv.1),
-      count_stays used at-loop.count c.give-count.result at-loop.rest c.args.k more inv.2 c.give-count.ensures.0,
-      list_stays used (get_or (g.W.Lent.rows_in c.args.rows.now) at-loop.at blank).key at-loop.count at-loop.list _ c.give-count.ensures.1 ∙ inv.3,
-      λ later. inv.4 (long_goes c.args.marks.now (g.W.Lent.rows_in c.args.rows.now) c.args.n at-loop.rest at-loop.at _ more c.following_row-at.ensures c.give-count.ensures.2 later),
+pub loop-done-preserved : goal.loop-done-preserved
+loop-done-preserved g c =
+    let marks = c.args.marks.now in
+    let xs = g.W.Lent.rows_in c.args.rows.now in
+    let n = c.args.n in
+    let l = c.loop-done in
+    let at = c.following_row-at in
+    let given = c.give-count in
+    let used = get_or marks l.at false in
+    let left : 0 < c.args.k - l.done = omega (arith, c.loop-done-test.true) in
+    let less : c.args.k - (l.done + 1) ≡ c.args.k - l.done - 1 = omega (arith, c.loop-done-test.true) in (
+      ap (λ (m : ℕ). passed marks xs n m at.result given.result given.new.list) less ∙ pass_goes marks xs n (c.args.k - l.done) l.at l.count l.list _ _ _ left at.ensures given.ensures.0 given.ensures.1 ∙ l.invariant.0,
+      subst (λ (i : ℕ). i < n) (sym at.ensures) (following_below n l.at l.invariant.1),
+      omega (arith, count_less used l.count, given.ensures.0, l.invariant.2),
+      list_stays used (get_or xs l.at blank).key l.count l.list _ given.ensures.1 ∙ l.invariant.3,
+      λ later. l.invariant.4 (long_goes marks xs n (c.args.k - l.done) l.at _ left at.ensures given.ensures.2 (subst (λ (m : ℕ). keys_long marks xs n m at.result) less later)),
     )
 
 pub returns : goal.returns
 returns g c =
-    let none : c.loop-rest.rest ≤ 0 = omega (arith, c.loop-rest-test.false) in (
-      pass_ends c.args.marks.now (g.W.Lent.rows_in c.args.rows.now) c.args.n c.loop-rest.rest c.loop-rest.at c.loop-rest.count c.loop-rest.list _ none c.loop-rest.invariant.0,
-      c.loop-rest.invariant.4 (no_key_left c.args.marks.now (g.W.Lent.rows_in c.args.rows.now) c.args.n c.loop-rest.rest c.loop-rest.at none),
+    let marks = c.args.marks.now in
+    let xs = g.W.Lent.rows_in c.args.rows.now in
+    let l = c.loop-done in
+    let none : c.args.k - l.done ≤ 0 = omega (arith, c.loop-done-test.false) in (
+      pass_ends marks xs c.args.n (c.args.k - l.done) l.at l.count l.list _ none l.invariant.0,
+      l.invariant.4 (no_key_left marks xs c.args.n (c.args.k - l.done) l.at none),
     )

@@ -9,12 +9,12 @@ loop-row-init c = (
   omega arith,
   omega arith,
   c.centres_under-end.ensures.0,
-  bits_start c.args.grid.now c.args.x c.args.y c.centres_under-from.result c.requires.1
+  bits_start c.args.grid.now c.args.at.x c.args.at.y c.centres_under-from.result c.args.at.in_grid.1
       (c.centres_under-from.ensures.0 ∙ ap (λ (z : ℕ). under z) c.saturating_sub.ensures),
 )
 
 pub returns : goal.returns
 returns c =
     let l = c.loop-row in
-    let e : l.row ≡ under (c.args.y + 11) = omega arith in
-    l.invariant.3 ∙ bits_end c.args.grid.now c.args.x c.args.y l.row c.requires.1 e
+    let e : l.row ≡ under (c.args.at.y + 11) = omega arith in
+    l.invariant.3 ∙ bits_end c.args.grid.now c.args.at.x c.args.at.y l.row c.args.at.in_grid.1 e

@@ -9,7 +9,7 @@ loop-row-init c = (
   omega arith,
   omega arith,
   c.centres_under-end.ensures.0,
-  λ g eh. cells_start g c.args.x c.args.y c.centres_under-from.result c.requires.2
+  λ g eh. cells_start g c.args.at.x c.args.at.y c.centres_under-from.result c.args.at.in_grid.1
       (c.centres_under-from.ensures.0 ∙ ap (λ (z : ℕ). under z) c.saturating_sub.ensures),
   omega arith,
 )
@@ -17,5 +17,5 @@ loop-row-init c = (
 pub returns : goal.returns
 returns c =
     let l = c.loop-row in
-    let e : l.row ≡ under (c.args.y + 11) = omega arith in
-    λ g eh. l.invariant.3 g eh ∙ cells_end g c.args.x c.args.y l.row c.requires.2 e
+    let e : l.row ≡ under (c.args.at.y + 11) = omega arith in
+    λ g eh. l.invariant.3 g eh ∙ cells_end g c.args.at.x c.args.at.y l.row c.args.at.in_grid.1 e

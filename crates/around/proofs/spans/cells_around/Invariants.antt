@@ -7,5 +7,5 @@ use Rattle.around.proofs.spans.cells_around.Given as goal
 
 abbrev pub invariant-loop-row : goal.invariant-loop-row
 invariant-loop-row l =
-    (l.y ≤ 2 * l.row + 11) × (l.row ≤ l.end) × (l.end ≡ under (l.y + 11))
-    × ((g : List ℕ) → l.heard ≡ counts_of g → l.n ≡ how_many (near g l.x l.y) (40 * l.row)) × (l.n ≤ 40 * l.row)
+    (l.at.y ≤ 2 * l.row + 11) × (l.row ≤ l.end) × (l.end ≡ under (l.at.y + 11))
+    × ((g : List ℕ) → l.heard ≡ counts_of g → l.n ≡ how_many (near g l.at.x l.at.y) (40 * l.row)) × (l.n ≤ 40 * l.row)

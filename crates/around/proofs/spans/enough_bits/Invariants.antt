@@ -7,5 +7,5 @@ use Rattle.around.proofs.spans.enough_bits.Given as goal
 
 abbrev pub invariant-loop-row : goal.invariant-loop-row
 invariant-loop-row l =
-    (l.y ≤ 2 * l.row + 11) × (l.row ≤ l.end) × (l.end ≡ under (l.y + 11))
-    × (l.bits ≡ bits_in (near l.grid l.x l.y) l.grid (40 * l.row)) × (ones l.bits < 8)
+    (l.at.y ≤ 2 * l.row + 11) × (l.row ≤ l.end) × (l.end ≡ under (l.at.y + 11))
+    × (l.bits ≡ bits_in (near l.grid l.at.x l.at.y) l.grid (40 * l.row)) × (ones l.bits < 8)

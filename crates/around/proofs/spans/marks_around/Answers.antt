@@ -9,12 +9,12 @@ loop-row-init c = (
   omega arith,
   omega arith,
   c.centres_under-end.ensures.0,
-  λ g eh. marks_start g c.args.x c.args.y c.centres_under-from.result c.requires.1
+  λ g eh. marks_start g c.args.at.place.x c.args.at.place.y c.centres_under-from.result c.args.at.place.in_grid.1
       (c.centres_under-from.ensures.0 ∙ ap (λ (z : ℕ). under z) c.saturating_sub.ensures),
 )
 
 pub returns : goal.returns
 returns c =
     let l = c.loop-row in
-    let e : l.row ≡ under (c.args.y + 11) = omega arith in
-    λ g eh. l.invariant.3 g eh ∙ marks_end g c.args.x c.args.y l.row c.requires.1 e
+    let e : l.row ≡ under (c.args.at.place.y + 11) = omega arith in
+    λ g eh. l.invariant.3 g eh ∙ marks_end g c.args.at.place.x c.args.at.place.y l.row c.args.at.place.in_grid.1 e

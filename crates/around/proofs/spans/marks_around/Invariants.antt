@@ -6,5 +6,5 @@ use Rattle.around.proofs.spans.marks_around.Given as goal
 
 abbrev pub invariant-loop-row : goal.invariant-loop-row
 invariant-loop-row l =
-    (l.y ≤ 2 * l.row + 11) × (l.row ≤ l.end) × (l.end ≡ under (l.y + 11))
-    × ((g : List ℕ) → l.heard ≡ counts_of g → l.m ≡ marks_of g l.x l.y (40 * l.row))
+    (l.at.place.y ≤ 2 * l.row + 11) × (l.row ≤ l.end) × (l.end ≡ under (l.at.place.y + 11))
+    × ((g : List ℕ) → l.heard ≡ counts_of g → l.m ≡ marks_of g l.at.place.x l.at.place.y (40 * l.row))

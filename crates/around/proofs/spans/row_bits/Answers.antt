@@ -11,15 +11,15 @@ loop-i-init c =
     let s = c.args in
     let g = s.grid.now in
     let h = c.reach-h.result in
-    let ei : c.cut-from.result ≡ cut_at s.row (s.x - h) = c.cut-from.ensures.0 ∙ ap (cut_at s.row) c.saturating_sub.ensures in (
-      omega (arith, cut_mono s.row (s.x - h) (s.x + h + 1) (omega arith)),
+    let ei : c.cut-from.result ≡ cut_at s.row.row (s.row.at.x - h) = c.cut-from.ensures.0 ∙ ap (cut_at s.row.row) c.saturating_sub.ensures in (
+      omega (arith, cut_mono s.row.row (s.row.at.x - h) (s.row.at.x + h + 1) (omega arith)),
       c.cut-end.ensures.0,
       omega arith,
       omega arith,
-      c.requires.4
-          ∙ bits_skip (near g s.x s.y) g (40 * s.row) (cut_at s.row (s.x - h)) (cut_start s.row (s.x - h))
-          (west_off g s.x s.y s.row c.row_off.result h c.requires.0 c.requires.2 c.row_off.ensures c.reach-h.ensures)
-          ∙ ap (λ (k : ℕ). bits_in (near g s.x s.y) g k) (sym ei),
+      c.requires
+          ∙ bits_skip (near g s.row.at.x s.row.at.y) g (40 * s.row.row) (cut_at s.row.row (s.row.at.x - h)) (cut_start s.row.row (s.row.at.x - h))
+          (west_off g s.row.at.x s.row.at.y s.row.row c.off.result h s.row.at.in_grid.0 s.row.near.0 c.off.ensures.0 c.reach-h.ensures)
+          ∙ ap (λ (k : ℕ). bits_in (near g s.row.at.x s.row.at.y) g k) (sym ei),
     )
 
 pub loop-i-preserved : goal.loop-i-preserved
@@ -31,8 +31,8 @@ loop-i-preserved c =
       l.invariant.1,
       l.invariant.2,
       omega arith,
-      bits_step (near g s.x s.y) g l.i l.out _ c.or_bits-out.result
-          (within g s.x s.y s.row c.row_off.result c.reach-h.result c.requires.0 c.requires.2 c.row_off.ensures c.reach-h.ensures l.i l.invariant.3 (omega arith))
+      bits_step (near g s.row.at.x s.row.at.y) g l.i l.out _ c.or_bits-out.result
+          (within g s.row.at.x s.row.at.y s.row.row c.off.result c.reach-h.result s.row.at.in_grid.0 s.row.near.0 c.off.ensures.0 c.reach-h.ensures l.i l.invariant.3 (omega arith))
           l.invariant.4 refl c.or_bits-out.ensures,
     )
 
@@ -42,7 +42,7 @@ returns c =
     let s = c.args in
     let g = s.grid.now in
     let h = c.reach-h.result in
-    let e : l.i ≡ cut_at s.row (s.x + h + 1) = omega arith in
-    l.invariant.4 ∙ ap (λ (k : ℕ). bits_in (near g s.x s.y) g k) e
-    ∙ bits_skip (near g s.x s.y) g (cut_at s.row (s.x + h + 1)) (40 * (s.row + 1)) (cut_end s.row (s.x + h + 1))
-    (east_off g s.x s.y s.row c.row_off.result h c.requires.0 c.requires.2 c.row_off.ensures c.reach-h.ensures)
+    let e : l.i ≡ cut_at s.row.row (s.row.at.x + h + 1) = omega arith in
+    l.invariant.4 ∙ ap (λ (k : ℕ). bits_in (near g s.row.at.x s.row.at.y) g k) e
+    ∙ bits_skip (near g s.row.at.x s.row.at.y) g (cut_at s.row.row (s.row.at.x + h + 1)) (40 * (s.row.row + 1)) (cut_end s.row.row (s.row.at.x + h + 1))
+    (east_off g s.row.at.x s.row.at.y s.row.row c.off.result h s.row.at.in_grid.0 s.row.near.0 c.off.ensures.0 c.reach-h.ensures)

@@ -6,5 +6,5 @@ use Rattle.around.proofs.spans.row_bits.Given as goal
 
 abbrev pub invariant-loop-i : goal.invariant-loop-i
 invariant-loop-i l =
-    (l.i ≤ l.end) × (l.end ≡ cut_at l.row (l.x + l.h + 1)) × (l.end ≤ 1600) × (cut_at l.row (l.x - l.h) ≤ l.i)
-    × (l.out ≡ bits_in (near l.grid l.x l.y) l.grid l.i)
+    (l.i ≤ l.end) × (l.end ≡ cut_at l.fn.row.row (l.fn.row.at.x + l.h + 1)) × (l.end ≤ 1600) × (cut_at l.fn.row.row (l.fn.row.at.x - l.h) ≤ l.i)
+    × (l.out ≡ bits_in (near l.grid l.fn.row.at.x l.fn.row.at.y) l.grid l.i)

@@ -1,6 +1,4 @@
 -- The line's answer stands whole in the buffer, and a tick's behind it.
-use Rattle.std.proofs.Common.{◌≡◌, ℕ, List, subst, sym}
-use Rattle.print.specs.Print.{put_in}
 use Rattle.calls.proofs.Came.{answered_is}
 use Rattle.calls.proofs.input.answer.Goals as goal
 
@@ -10,6 +8,5 @@ returns-clause-answered g c =
     let w = c.args.w.now in
     let v = c.tell-reply.new.w in
     let kept = c.room.ensures.kept in
-    answered_is c.args.line c.args.bytes.now o.lines w.size w.rows.now w.cells.now w.ends.now o.buf.now o.n v.size v.rows.now v.cells.now v.ends.now _ _ _ _ _ c.tell-reply.result c.read-asked.result
-    c.read-asked.ensures c.tell-reply.ensures.comes c.room.ensures.left o.large
-    (rw (kept.0, kept.1) at c.put_reply-end.ensures.0) (rw (kept.0, kept.1) at c.put_reply-end.ensures.1) c.tick-out.ensures
+    answered_is c.args.line c.args.bytes.now o.lines w.size w.rows.now w.cells.now w.ends.now o.text.out.now o.text.n v.size v.rows.now v.cells.now v.ends.now _ _ _ c.tell-reply.result c.read-asked.result
+    c.read-asked.ensures c.tell-reply.ensures.comes c.room.ensures.left o.large (rw (kept.0, kept.1) at c.put_reply.ensures.put) c.tick.ensures.put

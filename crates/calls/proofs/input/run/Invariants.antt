@@ -7,5 +7,5 @@ use Rattle.calls.proofs.input.run.Given as goal
 
 abbrev pub invariant-loop : goal.invariant-loop
 invariant-loop g l =
-    Going (held l.initial.list l.initial.w l.initial.out) (held l.list l.w l.out) (held_by g.W.Write.contents l.initial.out.to) (held_by g.W.Write.contents l.out.to) (sink_failed l.out.to)
+    Going (held l.initial.list l.initial.w l.initial.out) (held l.list l.w l.out) (held_by g.W.Write.contents l.initial.out.to.now) (held_by g.W.Write.contents l.out.to.now) (sink_failed l.out.to.now)
     × Room l.w.rows.now l.w.cells.now

@@ -1,5 +1,5 @@
 -- In order: each answer is a law of Judged, told by the tests that came before it.
-use Rattle.std.proofs.Common.{◌≡◌, ◌<◌, ℕ, List, arith, sym, ap, ◌∙◌, rules}
+use Rattle.std.proofs.Common.{◌≡◌, ◌<◌, ℕ, List, arith, sym, ap, ◌∙◌}
 use Rattle.around.specs.declared.Nearby.{Nearby}
 use Rattle.around.specs.Marks.{around_of, sectors_in}
 use Rattle.near_field.specs.Near.{best_or_none}
@@ -40,9 +40,6 @@ returns-in-None c =
     no_best s.scale s.grid.now _ (sym c.in-None.ensures.0)
     ∙ nf_rest s.scale s.grid.now _ (many {a = c.around.result} s.grid.now c.sectors-s.ensures.0 c.around.ensures) s.outside c.if-s-ge5.false c.if-s-gt3.false
     c.if-not-outside.false (sym c.no_hole.ensures ∙ c.if-no_hole.false)
-
-pub found_at-requires : goal.found_at-requires
-found_at-requires c = (c.in-Some.ensures.1, search rules, c.heard_before-heard.ensures)
 
 pub returns-in-Some : goal.returns-in-Some
 returns-in-Some c =

@@ -13,6 +13,6 @@ pub returns : goal.returns
 unfolding cos_r
 returns c =
     let l = c.loop-k in
-    let z = c.mul30-z.result in
-    let e : l.c ≡ cos_sum z 7 (2 ^ 30) = sym (none_left z l.k l.c (omega (arith, c.loop-k-test.false))) ∙ l.invariant.2 in
-    (rw (sym c.mul30-z.ensures.0) e, l.invariant.1)
+    let z = c.mul-z.result.n in
+    let e : l.c.0 ≡ cos_sum z 7 (2 ^ 30) = sym (none_left z l.k l.c.0 (omega (arith, c.loop-k-test.false))) ∙ l.invariant.2 in
+    rw (sym c.mul-z.ensures) e

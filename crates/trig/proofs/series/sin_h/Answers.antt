@@ -13,6 +13,6 @@ pub returns : goal.returns
 unfolding sin_h
 returns c =
     let l = c.loop-k in
-    let z = c.mul30-z.result in
-    let e : l.s ≡ sin_sum z 6 (2 ^ 30) = sym (none_left z l.k l.s (omega (arith, c.loop-k-test.false))) ∙ l.invariant.2 in
-    (c.mul30.ensures.0 ∙ simp (e, c.mul30-z.ensures.0), omega arith)
+    let z = c.mul-z.result.n in
+    let e : l.s.0 ≡ sin_sum z 6 (2 ^ 30) = sym (none_left z l.k l.s.0 (omega (arith, c.loop-k-test.false))) ∙ l.invariant.2 in
+    c.mul.ensures ∙ simp (e, c.mul-z.ensures)

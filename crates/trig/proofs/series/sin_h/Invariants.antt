@@ -4,4 +4,4 @@ use Rattle.trig.specs.Series.{sin_sum}
 use Rattle.trig.proofs.series.sin_h.Given as goal
 
 abbrev pub invariant-loop-k : goal.invariant-loop-k
-invariant-loop-k l = (1 ≤ l.k) × (l.s ≤ 2 ^ 30) × (sin_sum l.z (l.k - 1) l.s ≡ sin_sum l.z 6 (2 ^ 30))
+invariant-loop-k l = (1 ≤ l.k) × (l.s.0 ≤ 2 ^ 30) × (sin_sum l.z.n (l.k - 1) l.s.0 ≡ sin_sum l.z.n 6 (2 ^ 30))

@@ -9,11 +9,11 @@ use Rattle.vectors.proofs.write.show.Goals as goal
 
 pub returns-then-same-clause-count : goal.returns-then-same-clause-count
 returns-then-same-clause-count g c =
-    shown_count c.args.c c.args.t.now (word_is word_count c.first.ensures c.same.ensures c.if-same.true) c.put_counts-n.ensures.0 c.part.ensures
+    shown_count c.args.c c.args.t.now (word_is word_count c.first.ensures c.same.ensures c.if-same.true) c.put_counts.ensures.0 c.part.ensures
 
 pub returns-then-same-clause-written : goal.returns-then-same-clause-written
 returns-then-same-clause-written g c =
-    let row = text_row c.args.c c.args.t.now (word_is word_count c.first.ensures c.same.ensures c.if-same.true) c.put_counts-n.ensures c.part.ensures c.part-then-same.ensures in
+    let row = text_row c.args.c c.args.t.now (word_is word_count c.first.ensures c.same.ensures c.if-same.true) c.put_counts.ensures c.part.ensures c.bytes.ensures in
     λ sound. subst (Appends _ _) row (c.write.ensures.bytes sound)
 
 pub returns-clause-count : goal.returns-clause-count

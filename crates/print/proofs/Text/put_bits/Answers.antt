@@ -1,0 +1,13 @@
+-- What is put is the last 16 of the 20 digits: `bits_text`.
+use Rattle.std.proofs.Common.{ap, ◌∙◌}
+use Rattle.print.specs.Print.{put_in, put_end}
+use Rattle.print.proofs.Printing.{bits_part}
+use Rattle.print.proofs.Text.put_bits.Goals as goal
+
+pub returns-clause-put : goal.returns-clause-put
+returns-clause-put c =
+    let a = c.args in
+    let t = a.self.now in
+    let g = c.put.ensures.put in
+    let e = bits_part a.n c.spelled-d.result c.spelled-d.ensures in
+    (g.0 ∙ ap (put_end t.out.now t.n) e, g.1 ∙ ap (put_in t.out.now t.n) e)

@@ -1,0 +1,2 @@
+-- Laws that the proofs of other crates cite.
+pub mod Told
