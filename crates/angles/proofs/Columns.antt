@@ -4,10 +4,7 @@ use mathlib.Core.Path.{◌≡◌, sym, ap, ◌∙◌, subst}
 use Prim.Native.Nat.{ℕ, ◌+◌, ◌-◌, ◌*◌, ◌/◌, ◌%◌, ◌≤◌, ◌<◌}
 use native.Mathlib.Nat.{div-div-eq-div-mul}
 use native.Mathlib.Omega.{arith}
-
--- what both make together, in units
-abbrev pub together : ℕ → ℕ
-together v = v % 64 * 78125 + v / 64
+use Rattle.angles.specs.Plane.{together}
 
 parts : (v : ℕ) → v ≡ v / 64 * 64 + v % 64
 parts v = omega arith
@@ -25,13 +22,6 @@ pub few : (v : ℕ) → together v < 40 * 78125 → v % 64 < 40
 few v = go (v % 64) (v / 64)
   where
     go : (c a : ℕ) → c * 78125 + a < 40 * 78125 → c < 40
-    go c a h = omega arith
-
--- less than a column is left
-pub found : (v : ℕ) → v / 64 < 78125 → together v / 78125 ≡ v % 64
-found v = go (v % 64) (v / 64)
-  where
-    go : (c a : ℕ) → a < 78125 → (c * 78125 + a) / 78125 ≡ c
     go c a h = omega arith
 
 -- a column is left, and not two

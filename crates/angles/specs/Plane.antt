@@ -1,5 +1,5 @@
 -- 01, 'Ticks, plane and sphere', the third paragraph: east and north of the site in mm, and the cell.
-use Rattle.std.specs.Prelude.{ℕ, ◌*◌, ◌^◌, Bool, ltb, ℤ, pos, nat_abs, ◌+ℤ◌, ◌*ℤ◌}
+use Rattle.std.specs.Prelude.{ℕ, ◌+◌, ◌*◌, ◌/◌, ◌%◌, ◌^◌, Bool, ltb, ℤ, pos, nat_abs, ◌+ℤ◌, ◌*ℤ◌}
 use Rattle.std.specs.Int.Signed.{quot_z}
 use Rattle.trig.specs.Ticks.{scaled, π, nearest}
 use Rattle.trig.specs.Angle.{cosine}
@@ -27,3 +27,7 @@ near z = ltb (nat_abs z) 100000000
 -- 'column = (east + 100,000,000) div 5,000,000, row likewise from north'
 unfoldable pub column : ℤ → ℕ
 column e = nat_abs (quot_z (e +ℤ pos 100000000) (pos 5000000))
+
+-- a number of the code that holds columns and units of 64 mm, of which a column has 78,125: what both make together, in units
+abbrev pub together : ℕ → ℕ
+together v = v % 64 * 78125 + v / 64

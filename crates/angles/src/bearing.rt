@@ -2,9 +2,8 @@
 ghost use Rattle.std.specs.Prelude.{◌≡◌, ◌+◌, ◌≤◌, ◌<◌, pos, ◌-ℤ◌};
 ghost use Rattle.trig.specs.Ticks.{scaled};
 ghost use Rattle.angles.specs.Bearing.{quarter, sector};
-ghost use Rattle.trig.specs.Value.{signed, value};
+ghost use Rattle.trig.specs.Value.{value};
 
-use trig::num;
 use trig::num::{Num, Sine};
 use trig::series::Fraction;
 
@@ -13,9 +12,9 @@ use trig::series::Fraction;
 pub fn to_north(s1: Sine, c1: Fraction, s2: Sine, c2: Fraction, cd: Sine) -> Num
     ensures { value result ≡ scaled (pos c1.n) (value s2.n) -ℤ scaled (scaled (value s1.n) (pos c2.n)) (value cd.n) }
 {
-    let p = num::part(s2.n, c1);
-    let q = num::part(s1.n, c2);
-    p - num::scale(q, cd)
+    let p = s2.n * c1;
+    let q = s1.n * c2;
+    p - q * cd
 }
 
 // The sector between two of N, E, S, W, of the sizes towards the first, whose sector is k, and the second.
@@ -26,16 +25,16 @@ fn quarter_of(k: u64, ahead: u64, side: u64) -> u64
     k + (ahead <= side) as u64
 }
 
-// Of an east or west of size m and a north or south of size n, neither of them zero.
-fn between(west: bool, south: bool, m: u64, n: u64) -> u64
-    requires { (0 < m) × (0 < n) }
-    ensures { (result ≡ sector (signed west m) (signed south n)) × (result < 8) }
+// Of an east y and a north x, neither of them zero.
+fn between(y: Num, x: Num) -> u64
+    requires { (0 < y.size) × (0 < x.size) }
+    ensures { (result ≡ sector (value y) (value x)) × (result < 8) }
 {
-    match (west, south) {
-        (true, true) => quarter_of(4, n, m),
-        (true, false) => quarter_of(6, m, n),
-        (false, true) => quarter_of(2, m, n),
-        (false, false) => quarter_of(0, n, m),
+    match (y.minus, x.minus) {
+        (true, true) => quarter_of(4, x.size, y.size),
+        (true, false) => quarter_of(6, y.size, x.size),
+        (false, true) => quarter_of(2, y.size, x.size),
+        (false, false) => quarter_of(0, x.size, y.size),
     }
 }
 
@@ -47,6 +46,6 @@ pub fn sector_of(y: Num, x: Num) -> u64
         (0, 0) => 0,
         (0, _) => if x.minus { 4 } else { 0 },
         (_, 0) => if y.minus { 6 } else { 2 },
-        (m, n) => between(y.minus, x.minus, m, n),
+        (_, _) => between(y, x),
     }
 }

@@ -1,17 +1,14 @@
 // East and north of a site, in mm on its plane, and the cell of the grid.
-ghost use Rattle.std.specs.Prelude.{◌≡◌, ◌+◌, ◌*◌, ◌/◌, ◌%◌, ◌≤◌, ◌<◌, pos};
+ghost use Rattle.std.specs.Prelude.{◌≡◌, ◌*◌, ◌/◌, ◌≤◌, ◌<◌, pos};
 ghost use Rattle.trig.specs.Ticks.{deg, wrap, scaled};
-ghost use Rattle.angles.specs.Plane.{mm, column};
+ghost use Rattle.angles.specs.Plane.{mm, column, together};
 ghost use Rattle.trig.specs.Value.{value};
 
-use trig::num;
 use trig::num::Num;
 use trig::series::Fraction;
-use trig::turn::Angle;
+use trig::turn::{Angle, DEG_180};
 
 const M: u64 = 1779121284;
-
-const DEG_180: u64 = 180 << 24;
 
 const DEG_360: u64 = 360 << 24;
 
@@ -49,41 +46,55 @@ pub fn to_mm(d: Angle) -> Num
 pub fn to_east(c1: Fraction, dlon: Angle) -> Num
     ensures { value result ≡ mm (scaled (value dlon.n) (pos c1.n)) }
 {
-    to_mm(Angle {
-        n: num::part(dlon.n, c1),
-    })
+    to_mm(Angle { n: dlon.n * c1 })
 }
 
-// 5,000,000 is 64 × 78,125: the last six bits of a number of millimetres do not count for its column, and the columns found so far
-// stand in them. So v % 64 are columns, and v / 64 is what is left beyond them, in units of 64 mm.
-// One step: n columns more where they fit. What both make together stays.
-fn take_off(v: u64, n: u64) -> u64
-    requires { (v % 64 * 78125 + v / 64 < 40 * 78125) × (n ≤ 16) × (v / 64 < 2 * n * 78125) }
-    ensures { (result % 64 * 78125 + result / 64 ≡ v % 64 * 78125 + v / 64) × (result / 64 < n * 78125) }
-{
-    let width = n * 5000000;
-    if v < width { v } else { v - (width - n) }
+// Columns and what is left beyond them in one number: 5,000,000 is 64 × 78,125, so the last six bits of a number of millimetres do not count for
+// its column, and the columns found so far stand in them. So v % 64 are columns, and v / 64 is what is left, in units of 64 mm.
+#[derive(Clone, Copy)]
+struct Edge {
+    v: u64,
+    ghost in_grid: { together v < 40 * 78125 },
 }
 
-// The last step, one column more where it fits: the columns found. What is left is not asked for.
-fn last_off(v: u64) -> u64
-    requires { (v % 64 * 78125 + v / 64 < 40 * 78125) × (v / 64 < 2 * 78125) }
-    ensures { result ≡ (v % 64 * 78125 + v / 64) / 78125 }
-{
-    let columns = v % 64;
-    if v < 5000000 { columns } else { columns + 1 }
-}
+impl Edge {
+    // The millimetres from the grid's edge, the 20 columns up to the site found by the sign.
+    fn of(e: Num) -> Edge
+        requires { e.size < 100000000 }
+        ensures { (together result.v / 78125 ≡ column (value e)) × (result.v / 64 ≤ 20 * 78125) }
+    {
+        let n = e.size;
+        let v = if e.minus {
+            (100000000 - n) / 64 * 64
+        } else {
+            n / 64 * 64 + 20
+        };
+        Edge { v }
+    }
 
-// The millimetres from the grid's edge, the 20 columns up to the site found by the sign.
-fn from_edge(e: Num) -> u64
-    requires { e.size < 100000000 }
-    ensures { ((result % 64 * 78125 + result / 64) / 78125 ≡ column (value e)) × (result % 64 * 78125 + result / 64 < 40 * 78125) × (result / 64 ≤ 20 * 78125) }
-{
-    let n = e.size;
-    if e.minus {
-        (100000000 - n) / 64 * 64
-    } else {
-        n / 64 * 64 + 20
+    // One step: n columns more where they fit. What both make together stays.
+    fn take_off(self, n: u64) -> Edge
+        requires { (n ≤ 16) × (self.v / 64 < 2 * n * 78125) }
+        ensures { (together result.v ≡ together self.v) × (result.v / 64 < n * 78125) }
+    {
+        let width = n * 5000000;
+        let v = self.v;
+        Edge {
+            v: if v < width { v } else { v - (width - n) },
+        }
+    }
+
+    // The last step, one column more where it fits: the columns found. What is left is not asked for.
+    fn last_off(self) -> u64
+        requires { self.v / 64 < 2 * 78125 }
+        ensures { result ≡ together self.v / 78125 }
+    {
+        let columns = self.v % 64;
+        if self.v < 5000000 {
+            columns
+        } else {
+            columns + 1
+        }
     }
 }
 
@@ -92,9 +103,9 @@ pub fn column_of(e: Num) -> u64
     requires { e.size < 100000000 }
     ensures { (result ≡ column (value e)) × (result < 40) }
 {
-    let mut v = from_edge(e);
+    let mut edge = Edge::of(e);
     for n in [16, 8, 4, 2] {
-        v = take_off(v, n);
+        edge = edge.take_off(n);
     }
-    last_off(v)
+    edge.last_off()
 }

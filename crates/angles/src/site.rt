@@ -9,8 +9,8 @@ ghost use Rattle.trig.specs.Value.{value};
 use super::{bearing, plane, sphere};
 use trig::num::Num;
 use trig::series::Fraction;
+use trig::turn;
 use trig::turn::Angle;
-use trig::{num, turn};
 
 // A place, in ticks.
 #[derive(Clone, Copy)]
@@ -21,7 +21,7 @@ pub struct Ticks {
     pub ghost lon_in: { nat_abs lon ≤ deg 180 },
 }
 
-// Where a position lies: a cell of the grid, or 1,600 + the far bin.
+// Where a position lies: a cell of the grid, or 1,600 + the far bin: one number, the index into a half's 1,672 cells (a).
 #[derive(Clone, Copy)]
 pub struct Placed {
     pub number: u32,
@@ -50,7 +50,7 @@ fn far_bin(s: Seen, c1: Fraction) -> u64
     let c2 = turn::cos_lat(s.lat2);
     let sd = turn::sin_of(s.dlon);
     let cd = turn::cos_of(s.dlon);
-    let y = num::part(sd.n, c2);
+    let y = sd.n * c2;
     let x = bearing::to_north(s1, c1, s2, c2, cd);
     let h = sphere::haversine_of(c1, c2, s.dlat, s.dlon);
     9 * bearing::sector_of(y, x) + sphere::band_of(h)
@@ -74,6 +74,7 @@ fn placed_at(s: Seen) -> Placed
     }
 }
 
+#[tactic(auto, using(trig::proofs::Sizes::read_back, trig::proofs::Sizes::read_less))]
 fn seen_from(site: Ticks, position: Ticks) -> Seen
     ensures { (value result.lat1.n ≡ site.lat) × (value result.lat2.n ≡ position.lat) × (value result.dlat.n ≡ position.lat -ℤ site.lat) × (value result.dlon.n ≡ wrap (position.lon -ℤ site.lon)) }
 {
@@ -85,9 +86,9 @@ fn seen_from(site: Ticks, position: Ticks) -> Seen
             n: Num::from(position.lat),
         },
         dlat: Angle {
-            n: num::less(position.lat, site.lat),
+            n: Num::from(position.lat - site.lat),
         },
-        dlon: plane::wrapped(num::less(position.lon, site.lon)),
+        dlon: plane::wrapped(Num::from(position.lon - site.lon)),
     }
 }
 

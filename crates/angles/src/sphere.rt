@@ -53,11 +53,5 @@ pub fn at_most_one(h: u64) -> bool
 pub fn band_of(h: u64) -> u64
     ensures { (result ≡ band (pos h)) × (result < 9) }
 {
-    let mut band = 0;
-    for (k, edge) in EDGES.iter().enumerate() {
-        if *edge <= h {
-            band = k;
-        }
-    }
-    band as u64
+    EDGES.partition_point(|edge| *edge <= h).saturating_sub(1) as u64
 }

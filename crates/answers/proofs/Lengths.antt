@@ -21,7 +21,7 @@ use Rattle.verdicts.specs.declared.CheckState.{CheckState}
 use Rattle.verdicts.specs.declared.CheckState.TheVariants as state
 use Rattle.moves.specs.declared.Word.TheVariants as word
 use Rattle.answers.specs.Words.{◌then◌, name_text}
-use Rattle.answers.specs.Answers.{shown_text, stray_text, fault_text, bytes_text, key_text, evidence_text, judgment_text, state_text, claim_text, call_text, wrong_text, bit_of, reply_text, text_of}
+use Rattle.answers.specs.Answers.{shown_text, stray_text, fault_text, bytes_text, key_text, evidence_text, judgment_text, state_text, claim_text, call_text, wrong_text, bit_of, reply_text, Replied, text_of}
 use Rattle.answers.specs.declared.Reply.{Reply}
 use Rattle.readers.specs.declared.Name.{Name}
 use Rattle.readers.specs.declared.Fault.{Fault}
@@ -125,17 +125,17 @@ wrong_length f number line =
     counted_length (spell "error ") number (spell ": " then fault_text f line then spell "\n") (omega arith)
     (omega (arith, two (fault_text f line) (spell "\n") 64 1 (fault_length f line) (omega arith)))
 
-reply_length : (r : Reply) (number : ℕ) (line : List ℕ) → length (reply_text r number line) ≤ 128
-reply_length reply.Nothing number line = omega arith
-reply_length (reply.Answered a) number line = call_length a
-reply_length (reply.Place p) number line = counted_length (spell "place ") p (spell "\n") (omega arith) (omega arith)
-reply_length (reply.Same b) number line = counted_length (spell "same ") (bit_of b) (spell "\n") (omega arith) (omega arith)
-reply_length (reply.Horizon km) number line = hexed_length (spell "horizon ") (to_bits binary64 km) (omega arith)
-reply_length (reply.Bucket b) number line = counted_length (spell "bucket ") b (spell "\n") (omega arith) (omega arith)
-reply_length (reply.Bit k) number line = counted_length (spell "bit ") k (spell "\n") (omega arith) (omega arith)
-reply_length (reply.Digest d) number line = hexed_length (spell "digest ") d (omega arith)
-reply_length (reply.Wrong f) number line = wrong_length f number line
+reply_length : (r : Reply) → length (reply_text r) ≤ 128
+reply_length (reply.Answered a) = call_length a
+reply_length (reply.Place p) = counted_length (spell "place ") p (spell "\n") (omega arith) (omega arith)
+reply_length (reply.Same b) = counted_length (spell "same ") (bit_of b) (spell "\n") (omega arith) (omega arith)
+reply_length (reply.Horizon km) = hexed_length (spell "horizon ") (to_bits binary64 km) (omega arith)
+reply_length (reply.Bucket b) = counted_length (spell "bucket ") b (spell "\n") (omega arith) (omega arith)
+reply_length (reply.Bit k) = counted_length (spell "bit ") k (spell "\n") (omega arith) (omega arith)
+reply_length (reply.Digest d) = hexed_length (spell "digest ") d (omega arith)
 
-pub text_length : (r : Reply) (number : ℕ) (line : List ℕ) → length (text_of r number line) ≤ 128
+pub text_length : (r : Replied) (number : ℕ) (line : List ℕ) → length (text_of r number line) ≤ 128
 unfolding text_of
-text_length r number line = reply_length r number line
+text_length (Ok (Some r)) number line = reply_length r
+text_length (Ok None) number line = omega arith
+text_length (Err f) number line = wrong_length f number line

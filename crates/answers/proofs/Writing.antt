@@ -10,10 +10,10 @@ use lib.ListN.{length, get_or, take, drop, length-append, length-drop, take-appe
 use lib.Seq.{take_at, drop-append-add, drop-drop, length-take-le}
 use Rattle.fields.specs.Text.{spell, part_of, shown_of}
 use Rattle.print.specs.declared.Text.{Text}
-use Rattle.print.specs.Print.{digits, decimal_text, put_in, put_end, SameBuffer}
+use Rattle.print.specs.Print.{digits, decimal_text, put_in, put_end, SameBuffer, Wrote, Adds}
 use Rattle.answers.specs.Words.{◌then◌}
 use Rattle.readers.specs.declared.Fault.{Fault}
-use Rattle.answers.specs.Answers.{shown_text, fault_text, bytes_text, wrong_text, Wrote, Adds}
+use Rattle.answers.specs.Answers.{shown_text, fault_text, bytes_text, wrong_text}
 
 -- what fits is put
 put_whole : (out : List ℕ) (n : ℕ) (s : List ℕ) → n + length s ≤ length out → put_in out n s ≡ take n out ++ s ++ drop (n + length s) out
@@ -56,10 +56,6 @@ module _ (out : List ℕ) (n : ℕ) where
       ∙ ap (λ (t : List ℕ). t ++ drop n out) (append-nil (take n out)) ∙ take-append-drop n out)
 
 -- ---- what a part of an answer comes to
-wrote_put : (out s out' : List ℕ) (n r : ℕ) → r ≡ put_end out n s → out' ≡ put_in out n s → Wrote out n s out' r
-unfolding Wrote put_end
-wrote_put out s out' n r e f h = (e ∙ (rw (le-leb (n + length s) (length out) h)), f)
-
 wrote_none : (out : List ℕ) (n : ℕ) → Wrote out n [] out n
 unfolding Wrote
 wrote_none out n h = (omega arith, put_none out n (omega arith))
@@ -74,10 +70,6 @@ wrote_then out a b out1 out2 n m r w v h =
       omega (arith, l, x.0, y.0),
       y.1 ∙ ap (λ (o : List ℕ). put_in o m b) x.1 ∙ ap (λ (i : ℕ). put_in (put_in out n a) i b) x.0 ∙ put_twice out n a b h,
     )
-
-pub adds_put : (a b : Text) (s : List ℕ) → (b.n ≡ put_end a.out.now a.n s) × (b.out.now ≡ put_in a.out.now a.n s) → SameBuffer a b → Adds a s b
-unfolding Adds
-adds_put a b s e g = (g, wrote_put a.out.now s b.out.now a.n b.n e.0 e.1)
 
 pub adds_none : (a : Text) → Adds a [] a
 unfolding Adds

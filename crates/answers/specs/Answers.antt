@@ -1,10 +1,9 @@
 -- What a line is answered, as text (README, 'A list of calls'). Definitions only.
-use Rattle.std.specs.Prelude.{ℕ, zero, suc, ◌+◌, ◌≤◌, ◌≡◌, Bool, true, false, cond, List, [], length, get_or, eqb, leb, Option, Some, None, Ok, Err}
+use Rattle.std.specs.Prelude.{ℕ, zero, suc, ◌+◌, ◌≤◌, ◌≡◌, Bool, true, false, cond, List, [], length, get_or, eqb, leb, Option, Some, None, Result, Ok, Err}
 use Rattle.std.specs.Float.{binary64}
 use Rattle.std.specs.Float.Ieee.{to_bits}
 use Rattle.fields.specs.Text.{spell, part_of, shown_of}
-use Rattle.print.specs.declared.Text.{Text}
-use Rattle.print.specs.Print.{digits, decimal_text, bits_text, put_in, SameBuffer}
+use Rattle.print.specs.Print.{digits, decimal_text, bits_text, put_in}
 use Rattle.near_field.specs.declared.Judgment.{Judgment}
 use Rattle.near_field.specs.declared.Judgment.TheVariants as judgment
 use Rattle.near_field.specs.declared.Evidence.{Evidence}
@@ -103,20 +102,27 @@ bit_of b = cond b 1 0
 abbrev pub wrong_text : Fault → ℕ → List ℕ → List ℕ
 wrong_text f number line = spell "error " then decimal_text number then spell ": " then fault_text f line then spell "\n"
 
-abbrev pub reply_text : Reply → ℕ → List ℕ → List ℕ
-reply_text reply.Nothing number line = []
-reply_text (reply.Answered a) number line = call_text a
-reply_text (reply.Place p) number line = spell "place " then decimal_text p then spell "\n"
-reply_text (reply.Same b) number line = spell "same " then decimal_text (bit_of b) then spell "\n"
-reply_text (reply.Horizon km) number line = spell "horizon " then bits_text (to_bits binary64 km) then spell "\n"
-reply_text (reply.Bucket b) number line = spell "bucket " then decimal_text b then spell "\n"
-reply_text (reply.Bit k) number line = spell "bit " then decimal_text k then spell "\n"
-reply_text (reply.Digest d) number line = spell "digest " then bits_text d then spell "\n"
-reply_text (reply.Wrong f) number line = wrong_text f number line
+abbrev pub reply_text : Reply → List ℕ
+reply_text (reply.Answered a) = call_text a
+reply_text (reply.Place p) = spell "place " then decimal_text p then spell "\n"
+reply_text (reply.Same b) = spell "same " then decimal_text (bit_of b) then spell "\n"
+reply_text (reply.Horizon km) = spell "horizon " then bits_text (to_bits binary64 km) then spell "\n"
+reply_text (reply.Bucket b) = spell "bucket " then decimal_text b then spell "\n"
+reply_text (reply.Bit k) = spell "bit " then decimal_text k then spell "\n"
+reply_text (reply.Digest d) = spell "digest " then bits_text d then spell "\n"
 
--- of the reply to a line, its number and its bytes
-unfoldable pub text_of : Reply → ℕ → List ℕ → List ℕ
-text_of r number line = reply_text r number line
+-- what a line comes to: something to say, nothing, or what is wrong
+abbrev pub Replied : Type 0
+Replied = Result (Option Reply) Fault
+
+abbrev pub replied_text : Replied → ℕ → List ℕ → List ℕ
+replied_text (Ok (Some r)) number line = reply_text r
+replied_text (Ok None) number line = []
+replied_text (Err f) number line = wrong_text f number line
+
+-- of what a line comes to, its number and its bytes
+unfoldable pub text_of : Replied → ℕ → List ℕ → List ℕ
+text_of r number line = replied_text r number line
 
 -- ---- the buffer
 
@@ -126,11 +132,3 @@ answered_in out n s = cond (leb (n + 128) (length out)) (put_in out n s) out
 
 unfoldable pub answered_end : List ℕ → ℕ → List ℕ → ℕ
 answered_end out n s = cond (leb (n + 128) (length out)) (n + length s) n
-
--- a part of an answer: where it fits whole it is put whole
-unfoldable pub Wrote : List ℕ → ℕ → List ℕ → List ℕ → ℕ → Type 0
-Wrote out n s out' r = n + length s ≤ length out → (r ≡ n + length s) × (out' ≡ put_in out n s)
-
--- and then the text that the buffer holds has that part behind it
-unfoldable pub Adds : Text → List ℕ → Text → Type 0
-Adds a s b = SameBuffer a b × Wrote a.out.now a.n s b.out.now b.n

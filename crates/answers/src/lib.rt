@@ -14,23 +14,22 @@ use moves::Answer;
 use print::Text;
 use readers::Fault;
 
-// Silence and an error are replies too: a Result<Option<Reply>, Fault> would be taken apart here alone, by the same arms.
+// What there is to say of a line. A line comes to a Result<Option<Reply>, Fault>: where there is nothing to say, or something is wrong, there is no reply.
 #[derive(Clone, Copy)]
 pub enum Reply {
-    Nothing,
     Answered(Answer),
+    // 65,535 where a degree is out of range, as `siting_place` answers and the line prints (a).
     Place(u16),
     Same(bool),
     Horizon(f64),
     Bucket(u8),
     Bit(u32),
     Digest(u64),
-    Wrong(Fault),
 }
 
 // Puts the answer to the line of that number and those bytes. The buffer has to have 128 bytes free, which is more than any answer has.
 // The number is counted with the answers, the bytes lie in the reader's buffer: the two meet here (d).
-pub fn put_reply(to: &mut Text<'_>, reply: Reply, number: u64, line: &[u8])
+pub fn put_reply(to: &mut Text<'_>, reply: Result<Option<Reply>, Fault>, number: u64, line: &[u8])
     ensures put { (to.new.n ≡ answered_end to.old.out.now to.old.n (text_of reply number line.now)) × (to.new.out.now ≡ answered_in to.old.out.now to.old.n (text_of reply number line.now)) }
     ensures buffer { SameBuffer to.old to.new }
 {

@@ -10,14 +10,10 @@ use borrow.Author.Tests.{lt-ltb, le-leb, lt-leb}
 use Rattle.std.proofs.Math.Bool.{and-true, and-false}
 use Rattle.plane.specs.Plane.{east_of, north_of, apart, square, dist, over3, sector_from}
 use Rattle.around.specs.Marks.{occ, near, marks_of}
-use Rattle.around.specs.Counts.{counts_of, cut_at, span_of, spans_of}
+use Rattle.around.specs.Counts.{Reach, counts_of, cut_at, span_of, spans_of}
 use Rattle.plane.proofs.Squares.{square_le, far_square, two_apart}
 use Rattle.plane.proofs.Sectors.{in_0, in_1, in_2, in_3, in_4, in_5, in_6, in_7}
 use Rattle.around.proofs.Marked.{Lies, near_none, low_none, marks_skip, span_marks}
-
--- m half cells north or south, those within 25 km lie at most h east or west
-abbrev pub Reach : ℕ → ℕ → Type 0
-Reach m h = (square h + square m ≤ 100) × (100 < square (h + 1) + square m) × (h ≤ 10)
 
 -- the reaches by how far north or south a row lies
 unfoldable pub reaches : List ℕ
@@ -68,13 +64,13 @@ pub four_spans :
     → d ≡ spans_of hs ms row (q0 ∷ q1 ∷ q2 ∷ q3 ∷ q4 ∷ []) ss 4
 four_spans hs ms d row p0 p1 p2 p3 p4 q0 q1 q2 q3 q4 ss e e0 e1 e2 e3 e4 = cc
 
--- four spans one after the other, from p to p, where p are known to be q
+-- four spans one after the other, from p to p of sectors s to v, where these are known to be q and s' to v'
 pub in_turn :
-    (hs : List ℕ) (ms a b c d : List Bool) (p0 p1 p2 p3 p4 q0 q1 q2 q3 q4 s t u v : ℕ)
+    (hs : List ℕ) (ms a b c d : List Bool) (p0 p1 p2 p3 p4 q0 q1 q2 q3 q4 s t u v s' t' u' v' : ℕ)
     → a ≡ span_of hs ms p0 p1 s → b ≡ span_of hs a p1 p2 t → c ≡ span_of hs b p2 p3 u → d ≡ span_of hs c p3 p4 v
-    → p0 ≡ q0 → p1 ≡ q1 → p2 ≡ q2 → p3 ≡ q3 → p4 ≡ q4
-    → d ≡ span_of hs (span_of hs (span_of hs (span_of hs ms q0 q1 s) q1 q2 t) q2 q3 u) q3 q4 v
-in_turn hs ms a b c d p0 p1 p2 p3 p4 q0 q1 q2 q3 q4 s t u v ea eb ec ed e0 e1 e2 e3 e4 = cc
+    → p0 ≡ q0 → p1 ≡ q1 → p2 ≡ q2 → p3 ≡ q3 → p4 ≡ q4 → s ≡ s' → t ≡ t' → u ≡ u' → v ≡ v'
+    → d ≡ span_of hs (span_of hs (span_of hs (span_of hs ms q0 q1 s') q1 q2 t') q2 q3 u') q3 q4 v'
+in_turn hs ms a b c d p0 p1 p2 p3 p4 q0 q1 q2 q3 q4 s t u v s' t' u' v' ea eb ec ed e0 e1 e2 e3 e4 es et eu ev = cc
 
 -- two spans with a gap between them
 pub two_spans :

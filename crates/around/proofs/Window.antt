@@ -10,17 +10,19 @@ use borrow.Author.Tests.{le-leb, lt-leb}
 use lib.Bits.{bit_or, or_step}
 use lib.Count.{ones, ones_step}
 use lib.Dec.{leb}
-use lib.ListN.{get_or, replicate}
+use lib.ListN.{length, get_or, replicate}
+use Rattle.std.proofs.Common.{drop, length-drop, length-take, slice_range}
+use Rattle.std.proofs.lemmas.List.{get_or-take, get_or-drop}
 use Rattle.cells.specs.Cells.{bits_of, occupied_word}
 use Rattle.cells.specs.Passes.{pass, how_many}
 use Rattle.cells.proofs.Passes.{pass_none, pass_next, pass_skip}
 use Rattle.plane.specs.Plane.{apart}
 use Rattle.around.specs.declared.Nearby.{Nearby}
 use Rattle.around.specs.Marks.{occ, near, marks_of, bits_in, around_of}
-use Rattle.around.specs.Counts.{counts_of, under, cut_at}
+use Rattle.around.specs.Counts.{Reach, counts_of, under, cut_at}
 use Rattle.around.proofs.Counts.{count_mono, count_skip, count_span, count_less, heard_at_lem}
 use Rattle.around.proofs.Marked.{near_none, marks_skip, marks_none}
-use Rattle.around.proofs.Rows.{Reach, rows_off, west_off, east_off, within, cut_mono, cut_start, cut_end}
+use Rattle.around.proofs.Rows.{rows_off, west_off, east_off, within, cut_mono, cut_start, cut_end}
 
 -- ---- the rows before and behind
 module _ (g : List ℕ) (x y row : ℕ) (hy : y < 80) where
@@ -41,6 +43,14 @@ module _ (g : List ℕ) (x y row : ℕ) (hy : y < 80) where
 
   pub cells_end : row ≡ under (y + 11) → how_many (near g x y) (40 * row) ≡ how_many (near g x y) 1600
   cells_end e = sym (count_skip (near g x y) (40 * row) 1600 (omega arith) (behind e))
+
+-- ---- the words of a part of a grid
+module _ (g : List ℕ) (a b : ℕ) (l : b ≤ length g) where
+  pub words_in : length (slice_range g a b) ≡ b - a
+  words_in = simp (length-take, length-drop) (omega arith)
+
+  pub word_at : (j : ℕ) → j < length (slice_range g a b) → get_or (slice_range g a b) j 0 ≡ get_or g (a + j) 0
+  word_at j h = get_or-take (b - a) (drop a g) j 0 (omega (arith, words_in)) ∙ get_or-drop a g j 0
 
 -- ---- bits
 or_bits : List ℕ → (ℕ → Bool) → ℕ → ℕ → ℕ

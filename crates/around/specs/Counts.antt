@@ -1,11 +1,16 @@
 -- What the code keeps of a grid, and is not 01's.
-use Rattle.std.specs.Prelude.{ℕ, zero, suc, ◌+◌, ◌*◌, ◌/◌, min, Bool, true, cond, List, ltb, get_or, set}
+use Rattle.std.specs.Prelude.{ℕ, zero, suc, ◌+◌, ◌*◌, ◌/◌, ◌≤◌, ◌<◌, min, Bool, true, cond, List, ltb, get_or, set}
 use Rattle.cells.specs.Passes.{how_many, table}
+use Rattle.plane.specs.Plane.{square}
 use Rattle.around.specs.Marks.{occ}
 
 -- before each cell, how many are occupied: the cells of a part of a row are then counted by one difference
 unfoldable pub counts_of : List ℕ → List ℕ
 counts_of g = table (λ (i : ℕ). how_many (occ g) i) 1601
+
+-- h half cells east and west is as far as those within 25 km lie in a row m half cells north or south
+abbrev pub Reach : ℕ → ℕ → Type 0
+Reach m h = (square h + square m ≤ 100) × (100 < square (h + 1) + square m) × (h ≤ 10)
 
 -- how many columns, or rows, have their centre under z half cells
 abbrev pub under : ℕ → ℕ

@@ -16,16 +16,23 @@ pub struct Nearby {
     pub cells: u32,
 }
 
-// The marks with that of a sector, if it is heard. A sector is an index into the eight marks, and its range that of an index: a type of
-// its own would say no more (d).
-pub fn with_mark(mut marks: [bool; 8], sector: usize, heard: bool) -> [bool; 8]
-    requires { sector < 8 }
-    ensures { result ≡ cond heard (set marks sector true) marks }
-{
-    if heard {
-        marks[sector] = true;
+// One of the eight sectors: an index into the marks.
+#[derive(Clone, Copy)]
+pub struct Sector {
+    pub k: usize,
+    pub ghost in_marks: { k < 8 },
+}
+
+impl Sector {
+    // The marks with that of the sector, if it is heard.
+    pub fn mark(self, mut marks: [bool; 8], heard: bool) -> [bool; 8]
+        ensures { result ≡ cond heard (set marks self.k true) marks }
+    {
+        if heard {
+            marks[self.k] = true;
+        }
+        marks
     }
-    marks
 }
 
 // How many sectors are marked.

@@ -1,15 +1,17 @@
 // Around a place, row by row. In a row the cells within 25 km of a place stand side by side, and so do those of one sector: of each such span
 // two counts of the cells heard before its ends tell how many it holds. So a place asks 11 rows and not 1,600 cells.
-ghost use Rattle.std.specs.Prelude.{◌≡◌, cond, List, ℕ, ◌+◌, ◌*◌, ◌%◌, ◌≤◌, ◌<◌, leb, get_or};
+ghost use Rattle.std.specs.Prelude.{◌≡◌, cond, List, ℕ, ◌+◌, ◌-◌, ◌*◌, ◌%◌, ◌≤◌, ◌<◌, leb, map};
 ghost use Rattle.std.specs.Int.Bits.{bit_or};
 ghost use Rattle.std.specs.Int.Count.{ones};
 ghost use Rattle.cells.specs.Cells.{bits_of, occupied_word};
 ghost use Rattle.cells.specs.Passes.{how_many};
 ghost use Rattle.plane.specs.Plane.{square, apart};
 ghost use Rattle.around.specs.Marks.{marks_of, bits_in, near};
-ghost use Rattle.around.specs.Counts.{counts_of, under, cut_at, span_of, spans_of};
+ghost use Rattle.around.specs.Counts.{Reach, counts_of, under, cut_at, span_of, spans_of};
 
+use super::Sector;
 use plane::{Centre, Place};
+use std::ops::Range;
 
 // Before each cell, how many are occupied.
 pub fn heard_before(grid: &[u32; 1600]) -> [u32; 1601]
@@ -29,6 +31,13 @@ fn centres_under(z: u32) -> usize
     ensures { (result ≡ under z) × (result ≤ 40) }
 {
     (z / 2).min(40) as usize
+}
+
+// The rows whose centre is at most 10 half cells north or south of a place.
+fn rows_near(at: Place) -> Range<usize>
+    ensures { (result.start ≡ under (at.y - 10)) × (result.end ≡ under (at.y + 11)) }
+{
+    centres_under(at.y.saturating_sub(10))..centres_under(at.y + 11)
 }
 
 // A row at most 10 half cells north or south of a place.
@@ -54,6 +63,17 @@ impl Row {
     {
         (2 * (self.row as u32) + 1).abs_diff(self.at.y)
     }
+
+    // Where its cells within 25 km begin and end: indices into the counts.
+    fn ends(self) -> (usize, usize)
+        ensures { (h : ℕ) × Reach (apart (2 * self.row + 1) self.at.y) h × (result.0 ≡ cut_at self.row (self.at.x - h)) × (result.1 ≡ cut_at self.row (self.at.x + h + 1)) × (result.0 ≤ result.1) × (result.1 ≤ 1600) }
+    {
+        let h = reach(self.off());
+        (
+            self.cut(self.at.x.saturating_sub(h)),
+            self.cut(self.at.x + h + 1),
+        )
+    }
 }
 
 // By how many half cells a row lies north or south: how many half cells east or west, at most, those within 25 km lie.
@@ -61,7 +81,7 @@ const REACHES: [u32; 11] = [10, 9, 9, 9, 9, 8, 8, 7, 6, 4, 0];
 
 pub fn reach(m: u32) -> u32
     requires { m ≤ 10 }
-    ensures { (square result + square m ≤ 100) × (100 < square (result + 1) + square m) × (result ≤ 10) }
+    ensures { Reach m result }
 {
     REACHES[m as usize]
 }
@@ -69,24 +89,38 @@ pub fn reach(m: u32) -> u32
 // The marks with that of a sector, if its span of a row holds a cell. Here and below the marks go in and out by value (01), so they are in
 // no struct with the counts (a). Both indices have the bound that `plane` asks of a number of cells, which is another thing (d).
 #[tactic(auto, unfolding(crate::specs::Counts::span_of))]
-fn span(heard: &[u32; 1601], marks: [bool; 8], from: usize, to: usize, sector: usize) -> [bool; 8]
-    requires { (from ≤ 1600) × (to ≤ 1600) × (sector < 8) }
-    ensures { result ≡ span_of heard.now marks from to sector }
+fn span(heard: &[u32; 1601], marks: [bool; 8], from: usize, to: usize, sector: Sector) -> [bool; 8]
+    requires { (from ≤ 1600) × (to ≤ 1600) }
+    ensures { result ≡ span_of heard.now marks from to sector.k }
 {
-    super::with_mark(marks, sector, heard[from] < heard[to])
+    sector.mark(marks, heard[from] < heard[to])
 }
 
+// The sectors of a row north of a place, from west to east, and of one south of it. Two arrays and none of pairs: each goes whole into `spans` (d).
+const NORTH: [Sector; 4] = [
+    Sector { k: 6 },
+    Sector { k: 7 },
+    Sector { k: 0 },
+    Sector { k: 1 },
+];
+
+const SOUTH: [Sector; 4] = [
+    Sector { k: 5 },
+    Sector { k: 4 },
+    Sector { k: 3 },
+    Sector { k: 2 },
+];
+
 // The marks with those of four spans of a row, one behind the other: where each begins and the last ends, and their sectors. No loop:
-// with one a judging of a grid 60 km off takes 7 % more.
+// with one a judging of a grid 60 km off takes 7 % more (b).
 fn spans(
     heard: &[u32; 1601],
     marks: [bool; 8],
     row: Row,
     bounds: [u32; 5],
-    sectors: [usize; 4],
+    sectors: [Sector; 4],
 ) -> [bool; 8]
-    requires { (get_or sectors 0 0 < 8) × (get_or sectors 1 0 < 8) × (get_or sectors 2 0 < 8) × (get_or sectors 3 0 < 8) }
-    ensures { result ≡ spans_of heard.now marks row.row bounds sectors 4 }
+    ensures { result ≡ spans_of heard.now marks row.row bounds (map (λ s. s.k) sectors) 4 }
 {
     let from = row.cut(bounds[0]);
     let second = row.cut(bounds[1]);
@@ -99,7 +133,8 @@ fn spans(
     span(heard, c, fourth, end, sectors[3])
 }
 
-// The marks of a row besides: north of the place, south of it, or its own. The place's own cell is not over 3 km away.
+// The marks of a row besides: north of the place, south of it, or its own. The place's own cell is not over 3 km away. The counts come
+// alone, here and below: `Counted` of `near_field` would also ask for their grid, and `marks_around` asks nothing of them (d).
 fn row_marks(heard: &[u32; 1601], marks: [bool; 8], at: Centre, row: usize) -> [bool; 8]
     requires { (row < 40) × (apart (2 * row + 1) at.place.y ≤ 10) }
     ensures { (g : List ℕ) → heard.now ≡ counts_of g → marks ≡ marks_of g at.place.x at.place.y (40 * row) → result ≡ marks_of g at.place.x at.place.y (40 * (row + 1)) }
@@ -114,7 +149,7 @@ fn row_marks(heard: &[u32; 1601], marks: [bool; 8], at: Centre, row: usize) -> [
     let east = x + h + 1;
     if y < cy {
         let north = [west, x.saturating_sub(m.min(h)), x, x + m.min(h + 1), east];
-        return spans(heard, marks, r, north, [6, 7, 0, 1]);
+        return spans(heard, marks, r, north, NORTH);
     }
     if cy < y {
         let south = [
@@ -124,10 +159,10 @@ fn row_marks(heard: &[u32; 1601], marks: [bool; 8], at: Centre, row: usize) -> [
             x + m.min(h) + 1,
             east,
         ];
-        return spans(heard, marks, r, south, [5, 4, 3, 2]);
+        return spans(heard, marks, r, south, SOUTH);
     }
-    let a = span(heard, marks, r.cut(west), r.cut(x), 6);
-    span(heard, a, r.cut(x + 1), r.cut(east), 2)
+    let a = span(heard, marks, r.cut(west), r.cut(x), Sector { k: 6 });
+    span(heard, a, r.cut(x + 1), r.cut(east), Sector { k: 2 })
 }
 
 // The sectors of the cells around a place: a cell's centre, or the site.
@@ -135,10 +170,8 @@ pub fn marks_around(heard: &[u32; 1601], at: Centre) -> [bool; 8]
     ensures { (g : List ℕ) → heard.now ≡ counts_of g → result ≡ marks_of g at.place.x at.place.y 1600 }
 {
     let mut m = [false; 8];
-    let y = at.place.y;
-    let from = centres_under(y.saturating_sub(10));
-    let end = centres_under(y + 11);
-    for row in from..end {
+    let rows = rows_near(at.place);
+    for row in rows.start..rows.end {
         // by way of a name: the prover takes no array that a call lays into a variable of a loop
         let next = row_marks(heard, m, at, row);
         m = next;
@@ -151,10 +184,8 @@ fn row_cells(heard: &[u32; 1601], row: Row) -> u32
     requires { (g : List ℕ) × (heard.now ≡ counts_of g) }
     ensures { ((g : List ℕ) → heard.now ≡ counts_of g → how_many (near g row.at.x row.at.y) (40 * row.row) + result ≡ how_many (near g row.at.x row.at.y) (40 * (row.row + 1))) × (result ≤ 40) }
 {
-    let h = reach(row.off());
-    let from = heard[row.cut(row.at.x.saturating_sub(h))];
-    let to = heard[row.cut(row.at.x + h + 1)];
-    to - from
+    let (from, end) = row.ends();
+    heard[end] - heard[from]
 }
 
 // How many cells lie around a place.
@@ -163,9 +194,8 @@ pub fn cells_around(heard: &[u32; 1601], at: Place) -> u32
     ensures { (g : List ℕ) → heard.now ≡ counts_of g → result ≡ how_many (near g at.x at.y) 1600 }
 {
     let mut n = 0;
-    let from = centres_under(at.y.saturating_sub(10));
-    let end = centres_under(at.y + 11);
-    for row in from..end {
+    let rows = rows_near(at);
+    for row in rows.start..rows.end {
         n += row_cells(heard, Row { at, row });
     }
     n
@@ -187,12 +217,10 @@ fn row_bits(grid: &[u32; 1600], bits: u32, row: Row) -> u32
     requires { bits ≡ bits_in (near grid.now row.at.x row.at.y) grid.now (40 * row.row) }
     ensures { result ≡ bits_in (near grid.now row.at.x row.at.y) grid.now (40 * (row.row + 1)) }
 {
-    let h = reach(row.off());
+    let (from, end) = row.ends();
     let mut out = bits;
-    let from = row.cut(row.at.x.saturating_sub(h));
-    let end = row.cut(row.at.x + h + 1);
-    for i in from..end {
-        out = or_bits(out, grid[i]);
+    for w in &grid[from..end] {
+        out = or_bits(out, *w);
     }
     out
 }
@@ -202,22 +230,21 @@ pub fn bits_around(grid: &[u32; 1600], at: Place) -> u32
     ensures { result ≡ bits_in (near grid.now at.x at.y) grid.now 1600 }
 {
     let mut all = 0;
-    let from = centres_under(at.y.saturating_sub(10));
-    let end = centres_under(at.y + 11);
-    for row in from..end {
+    let rows = rows_near(at);
+    for row in rows.start..rows.end {
         all = row_bits(grid, all, Row { at, row });
     }
     all
 }
 
-// Whether there are 8 of them: once there are, there will be.
+// Whether there are 8 of them: once there are, there will be. By `bits_around`, which asks all rows, a judging of a grid 60 km off takes 25 %
+// more (b).
 pub fn enough_bits(grid: &[u32; 1600], at: Place) -> bool
     ensures { result ≡ leb 8 (ones (bits_in (near grid.now at.x at.y) grid.now 1600)) }
 {
     let mut bits = 0;
-    let from = centres_under(at.y.saturating_sub(10));
-    let end = centres_under(at.y + 11);
-    for row in from..end {
+    let rows = rows_near(at);
+    for row in rows.start..rows.end {
         bits = row_bits(grid, bits, Row { at, row });
         if 8 <= bits.count_ones() {
             return true;

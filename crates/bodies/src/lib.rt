@@ -1,11 +1,11 @@
 // What a call does to the body of one row: the part that it gets, by value, and its cells in those of all rows.
 #![tactic(auto)]
 
-ghost use Rattle.std.specs.Prelude.{◌≡◌, cond, ◌+◌, ◌*◌, ◌≤◌, length, take, drop, replicate};
+ghost use Rattle.std.specs.Prelude.{◌≡◌, ◌+◌, ◌*◌, ◌≤◌, length, take, drop, replicate};
 ghost use Rattle.std.proofs.lemmas.List.Edits.{sets};
 ghost use Rattle.cells.specs.Cells.{empty_word};
 ghost use Rattle.heard.specs.Heard.{width, empty_cells};
-ghost use Rattle.heard.specs.Answers.{counting_is, CountingFits};
+ghost use Rattle.heard.specs.Answers.{counting_is};
 ghost use Rattle.receiver.specs.Calls as calls;
 ghost use Rattle.bodies.specs.Bodies.{claim_part};
 
@@ -18,14 +18,7 @@ use receiver::Part;
 // The cells of all rows are lent as one slice (a), and i is a row. Each call of `lent` does one of these once: a struct of both, with the bound,
 // would be made for it (d).
 
-// How many a row has. By name, so that no proof computes with the number.
-fn row_cells() -> usize
-    ensures { result ≡ width }
-{
-    3344
-}
-
-// Not one with the same of `flat`: each names its own width, so that no proof computes with a number (d).
+// Neither this nor `end_of` is one with that of `flat`: one line each, and a common one would be a crate for a product (d).
 fn start_of(i: u32) -> usize
     ensures { result ≡ width * i }
 {
@@ -39,35 +32,26 @@ fn end_of(i: u32) -> usize
 }
 
 // Row i's cells become empty.
+#[tactic(auto, using(crate::proofs::Laws::emptied))]
 pub fn empty(cells: &mut [u32], i: u32)
     requires { width * i + width ≤ length cells.old }
     ensures { cells.new ≡ sets cells.old (width * i) empty_cells }
 {
     let a = start_of(i);
-    let n = row_cells();
-    heard::empty(cells, a, n);
-}
-
-// So they do where `all` is set.
-pub fn empty_if(cells: &mut [u32], i: u32, all: bool)
-    requires { width * i + width ≤ length cells.old }
-    ensures { cells.new ≡ cond all (sets cells.old (width * i) empty_cells) cells.old }
-{
-    if all {
-        empty(cells, i);
-    }
+    let z = end_of(i);
+    heard::empty(&mut cells[a..z]);
 }
 
 pub fn fresh_cells(cells: &mut [u32])
     ensures { cells.new ≡ replicate (length cells.old) empty_word }
 {
-    let n = cells.len();
-    heard::empty(cells, 0, n);
+    heard::empty(cells);
 }
 
 // A position is counted in row i's cells.
+#[tactic(auto, using(crate::proofs::Laws::counted))]
 pub fn count_in(cells: &mut [u32], i: u32, c: Counting)
-    requires { (width * i + width ≤ length cells.old) × CountingFits c }
+    requires { width * i + width ≤ length cells.old }
     ensures { cells.new ≡ sets cells.old (width * i) (counting_is c (take width (drop (width * i) cells.old))) }
 {
     let a = start_of(i);
@@ -76,6 +60,7 @@ pub fn count_in(cells: &mut [u32], i: u32, c: Counting)
 }
 
 // Row i is judged, which has heard so much; the call's two words come as C gives them (a).
+#[tactic(auto, using(crate::proofs::Laws::judge_fits))]
 pub fn judge_cells(cells: &[u32], i: u32, heard: Heard, now_ms: u64, aircraft: u64) -> Judgment
     requires { width * i + width ≤ length cells.now }
     ensures { result ≡ calls.judging_of heard (take width (drop (width * i) cells.now)) now_ms aircraft }

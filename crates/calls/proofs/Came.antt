@@ -8,11 +8,10 @@ use Rattle.grammar.specs.declared.Said.{Said}
 use Rattle.readers.specs.declared.Fault.{Fault}
 use Rattle.fields.specs.Text.{part_of}
 use Rattle.print.specs.declared.Text.{Text}
-use Rattle.print.specs.Print.{put_in}
+use Rattle.print.specs.Print.{put_in, Wrote, Adds}
 use Rattle.lending.specs.Lendings.{lent_to}
 use Rattle.lending.specs.declared.Size.{Size}
-use Rattle.answers.specs.declared.Reply.{Reply}
-use Rattle.answers.specs.Answers.{text_of, answered_in, answered_end, Wrote, Adds}
+use Rattle.answers.specs.Answers.{Replied, text_of, answered_in, answered_end}
 use Rattle.answers.proofs.Lengths.{text_length}
 use Rattle.answers.proofs.Writing.{put_length}
 use Rattle.rounds.proofs.Lengths.{line_length}
@@ -58,7 +57,7 @@ fitting : (a b : Text) (s : List ℕ) → Adds a s b → a.n + length s ≤ leng
 unfolding Adds Wrote
 fitting a b s w h = w.1 h
 
-module _ (line : Line) (b : List ℕ) (number : ℕ) (z : Size) (xs ys ws out : List ℕ) (n : ℕ) (z' : Size) (xs' ys' ws' : List ℕ) (m to : Text) (at : ℕ) (reply : Reply) (asked : Result (Option Said) Fault) where
+module _ (line : Line) (b : List ℕ) (number : ℕ) (z : Size) (xs ys ws out : List ℕ) (n : ℕ) (z' : Size) (xs' ys' ws' : List ℕ) (m to : Text) (at : ℕ) (reply : Replied) (asked : Result (Option Said) Fault) where
   pub answered_is : asked ≡ line_of b → Came line asked z xs ys ws z' xs' ys' ws' reply → at ≡ room_of n → 65536 ≤ length out → (m.n ≡ answered_end out at (text_of reply number b)) × (m.out.now ≡ answered_in out at (text_of reply number b))
       → Adds m (tick_of (lent_to z' xs' ys' ws') asked) to
       → Answered line b number z xs ys ws out n z' xs' ys' ws' to.out.now to.n

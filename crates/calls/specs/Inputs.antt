@@ -13,18 +13,16 @@ use Rattle.readers.specs.declared.Fault.TheVariants as fault
 use Rattle.lending.specs.declared.Size.{Size}
 use Rattle.lending.specs.Lendings.{lent_to}
 use Rattle.session.specs.Watches.{Stays, Heard}
-use Rattle.answers.specs.declared.Reply.{Reply}
-use Rattle.answers.specs.declared.Reply.TheVariants as reply
-use Rattle.answers.specs.Answers.{text_of}
+use Rattle.answers.specs.Answers.{Replied, text_of}
 use Rattle.rounds.specs.Rounds.{line_text}
 
 -- what a line comes to, whose bytes ask for q; one of more than 1,024 bytes is not read
-abbrev pub CameBy : Line → Result (Option Said) Fault → Size → List ℕ → List ℕ → List ℕ → Size → List ℕ → List ℕ → List ℕ → Reply → Type 0
+abbrev pub CameBy : Line → Result (Option Said) Fault → Size → List ℕ → List ℕ → List ℕ → Size → List ℕ → List ℕ → List ℕ → Replied → Type 0
 CameBy (At start end) q z xs ys ws z' xs' ys' ws' r = Heard q z xs ys ws z' xs' ys' ws' r
-CameBy TooLong q z xs ys ws z' xs' ys' ws' r = Stays (reply.Wrong fault.TooLong) z xs ys ws z' xs' ys' ws' r
-CameBy Nothing q z xs ys ws z' xs' ys' ws' r = Stays reply.Nothing z xs ys ws z' xs' ys' ws' r
+CameBy TooLong q z xs ys ws z' xs' ys' ws' r = Stays (Err fault.TooLong) z xs ys ws z' xs' ys' ws' r
+CameBy Nothing q z xs ys ws z' xs' ys' ws' r = Stays (Ok None) z xs ys ws z' xs' ys' ws' r
 
-unfoldable pub Came : Line → Result (Option Said) Fault → Size → List ℕ → List ℕ → List ℕ → Size → List ℕ → List ℕ → List ℕ → Reply → Type 0
+unfoldable pub Came : Line → Result (Option Said) Fault → Size → List ℕ → List ℕ → List ℕ → Size → List ℕ → List ℕ → List ℕ → Replied → Type 0
 Came l q z xs ys ws z' xs' ys' ws' r = CameBy l q z xs ys ws z' xs' ys' ws' r
 
 -- lines are counted, too long ones also
@@ -49,7 +47,7 @@ tick_of w (Err f) = []
 
 -- a line's answer, whole in the buffer, and a tick's, whole behind it: of any line one of the two is empty
 pub record Answered (line : Line) (b : List ℕ) (number : ℕ) (z : Size) (xs ys ws out : List ℕ) (n : ℕ) (z' : Size) (xs' ys' ws' out' : List ℕ) (n' : ℕ) : Type 0 where
-  pub reply : Reply
+  pub reply : Replied
   pub came : Came line (line_of b) z xs ys ws z' xs' ys' ws' reply
   pub end : n' ≡ room_of n + length (text_of reply number b) + length (tick_of (lent_to z' xs' ys' ws') (line_of b))
   pub put : out' ≡ put_in (put_in out (room_of n) (text_of reply number b)) (room_of n + length (text_of reply number b)) (tick_of (lent_to z' xs' ys' ws') (line_of b))

@@ -8,7 +8,7 @@ use Rattle.lines.specs.declared.Line.{Line}
 use Rattle.lines.specs.declared.Lines.{Lines}
 use Rattle.lending.specs.declared.Size.{Size}
 use Rattle.lending.specs.declared.watch.Watch.{Watch}
-use Rattle.answers.specs.declared.Reply.{Reply}
+use Rattle.answers.specs.Answers.{Replied}
 use Rattle.session.specs.Watches.{Watched}
 use Rattle.calls.specs.declared.output.Output.{Output}
 use Rattle.calls.specs.Inputs.{number_of, written_of, Answered}
@@ -55,7 +55,7 @@ pub record Told (a : Held) (x y : Option (List ℕ)) : Type 0 where
   pub first : Held
   pub last : Held
   pub text : List ℕ
-  pub reply : Reply
+  pub reply : Replied
   pub opened : Watched 1 a.size a.rows a.cells a.ends first.size first.rows first.cells first.ends reply
   pub begun : first ≡ record a { size = first.size; rows = first.rows; cells = first.cells; ends = first.ends }
   pub turns : Turns first last text

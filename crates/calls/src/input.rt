@@ -3,8 +3,7 @@ ghost use Rattle.std.specs.Prelude.{◌≡◌, true, false};
 ghost use Rattle.std.specs.Io.KnownBytes.{Appends};
 ghost use Rattle.lines.specs.Streams.{held_by, sink_failed};
 ghost use Rattle.lending.specs.Lendings.{Room, lent_to};
-ghost use Rattle.print.specs.Print.{SameBuffer};
-ghost use Rattle.answers.specs.Answers.{Adds};
+ghost use Rattle.print.specs.Print.{SameBuffer, Adds};
 ghost use Rattle.calls.specs.Inputs.{Came, number_of, written_of, tick_of, Answered};
 ghost use Rattle.calls.specs.Turns.{held, Stepped, Told};
 
@@ -19,15 +18,19 @@ use std::io::{Read, Write};
 
 // What a line comes to, whose bytes ask for this.
 #[tactic(auto, unfolding(crate::specs::Inputs::Came))]
-fn tell(w: &mut Watch<'_>, line: Line, asked: Result<Option<Said>, Fault>) -> Reply
+fn tell(
+    w: &mut Watch<'_>,
+    line: Line,
+    asked: Result<Option<Said>, Fault>,
+) -> Result<Option<Reply>, Fault>
     requires { Room w.old.rows.now w.old.cells.now }
     ensures comes { Came line asked w.old.size w.old.rows.now w.old.cells.now w.old.ends.now w.new.size w.new.rows.now w.new.cells.now w.new.ends.now result }
     ensures room { Room w.new.rows.now w.new.cells.now }
 {
     match line {
         Line::At { .. } => session::answer(w, asked),
-        Line::TooLong => Reply::Wrong(Fault::TooLong),
-        Line::Nothing => Reply::Nothing,
+        Line::TooLong => Err(Fault::TooLong),
+        Line::Nothing => Ok(None),
     }
 }
 
@@ -36,7 +39,7 @@ fn number_of(line: Line, lines: u64) -> u64
     ensures { result ≡ number_of line lines }
 {
     match line {
-        Line::At { .. } | Line::TooLong => std::num::wrapping_add_u64(lines, 1),
+        Line::At { .. } | Line::TooLong => lines.wrapping_add(1),
         Line::Nothing => lines,
     }
 }
@@ -53,8 +56,8 @@ fn tick(w: &Watch<'_>, asked: Result<Option<Said>, Fault>, to: &mut Text<'_>)
     }
 }
 
-// Runs a line, and puts its answer behind those that wait. The list lends the bytes meanwhile: so watch and output, here and below, are in no
-// struct with it (d).
+// Runs a line, and puts its answer behind those that wait. The list lends the bytes meanwhile: here and below a struct of list, watch and
+// output would be taken apart into the three for each line (d).
 fn answer<W: Write>(w: &mut Watch<'_>, out: &mut Output<'_, W>, line: Line, bytes: &[u8])
     requires { Room w.old.rows.now w.old.cells.now }
     ensures answered { Answered line bytes.now out.old.lines w.old.size w.old.rows.now w.old.cells.now w.old.ends.now out.old.text.out.now out.old.text.n w.new.size w.new.rows.now w.new.cells.now w.new.ends.now out.new.text.out.now out.new.text.n }
@@ -85,6 +88,7 @@ fn step<R: Read, W: Write>(list: &mut Lines<'_, R>, w: &mut Watch<'_>, out: &mut
 }
 
 // Before the first line there is a fresh watch of one row. A proved loop has to end, and nothing says that the input does. So the loop has as many turns as no run uses up.
+// Crate `vectors` has such a loop too: a common one would take the step as a closure with its contract over list, watch and output (d).
 pub fn run<R: Read, W: Write>(list: &mut Lines<'_, R>, w: &mut Watch<'_>, out: &mut Output<'_, W>)
     requires { Room w.old.rows.now w.old.cells.now }
     ensures { sink_failed out.new.to.now ≡ false → Told (held list.old w.old out.old) (held_by W.contents out.old.to.now) (held_by W.contents out.new.to.now) }

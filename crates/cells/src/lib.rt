@@ -1,5 +1,5 @@
-// A cell of the siting watch: how many positions fell in it, the lowest altitude bucket, which aircraft. No other crate
-// knows how a cell is packed into a word.
+// A cell of the siting watch: how many positions fell in it, the lowest altitude bucket, which aircraft. How a cell
+// is packed into a word is known here alone, but that `view::heard_among` lays words over each other and asks that for its count.
 #![tactic(auto, unfolding(crate::specs::Cells::packed, crate::specs::Cells::count_of, crate::specs::Cells::low_of, crate::specs::Cells::bits_of, crate::specs::Cells::empty_word, crate::specs::Cells::added, crate::specs::Cells::added_word, crate::specs::Cells::merge, crate::specs::Cells::merged_word, crate::specs::Cells::aircraft_bit, crate::specs::Cells::ceiling))]
 
 ghost use Rattle.std.specs.Prelude.{◌≡◌, ltb};
@@ -15,6 +15,7 @@ pub struct Cell {
 }
 
 impl Cell {
+    // 01 names the constant among its forms (a), and `empty` gives it; rows hold packed cells, which ask `empty_word` and `occupied`.
     pub const EMPTY: Cell = Cell {
         count: 0,
         low: 255,
@@ -27,7 +28,7 @@ impl Cell {
         Cell::EMPTY
     }
 
-    // No `From<u32>`, nor its way back: a word is a packed cell, and the names say so.
+    // No `From<u32>`, nor its way back: a word is a packed cell, and the names say so (d).
     pub fn unpack(w: u32) -> Cell
         ensures { result ≡ unpacked w }
     {
@@ -72,7 +73,7 @@ impl Cell {
         self.count > 0
     }
 
-    // A bucket of 255 is none: a cell of 01 is 32 bits, with 8 of them for the bucket (a).
+    // A bucket of 255 is none. It is above every other, so the lower of two is `min`: an Option in the cell would need a case more (d).
     pub fn ceiling_m(self) -> Option<f64>
         ensures { result ≡ ceiling self.low }
     {

@@ -1,6 +1,7 @@
 -- What a call leaves in lent rows, by its answer, and the two laws that each form of them meets: rows as they were are what a refusal leaves, and rows that pass
 -- question 2 are what an accepted call leaves. Definitions, and the laws of records and of words.
 use Rattle.std.specs.Prelude.{◌≡◌, ℕ, ◌≤◌, true, List, Option, map, length, refl}
+use Rattle.std.specs.Borrow.{MutBor}
 use Rattle.std.proofs.Common.{sym, arith}
 use Rattle.table.specs.Machine as M
 use Rattle.table.specs.Machine.{Answer, refused, said}
@@ -33,3 +34,7 @@ words_left = record { leaves = λ n xs. refl; keeps = λ pushed out xs ys some s
 -- a row's number has 32 bits
 pub few_numbers : (n : ℕ) → n ≤ 4096 → n ≤ 4294967296
 few_numbers n few = omega arith
+
+-- The slice that was lent is lent still, and these are its rows.
+abbrev pub Become : {X : Type 0} → (List X → List Row) → MutBor (List X) → MutBor (List X) → List Row → Type 0
+Become rows_in old new rows = (new.ghost_name ≡ old.ghost_name) × (rows_in new.now ≡ rows)

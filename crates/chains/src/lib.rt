@@ -3,23 +3,25 @@
 // A link or an end that is none is the largest u32, as in the words that are lent (a).
 #![tactic(auto)]
 
+mod steps;
+
 ghost use Rattle.std.specs.Prelude.{◌≡◌, ℕ, ◌≤◌, ◌<◌, List, leb, length, set, get_or, refl};
 ghost use Rattle.table.specs.Machine.{Answer};
 ghost use Rattle.receiver.specs.Calls.{Out};
 ghost use Rattle.rows.specs.Read.{Looked};
-ghost use Rattle.rows.specs.Links.{blank, with_links, nexted, preved, part_at, parted_rows, unlinked_rows, unlinked_ends, linked_rows, released_rows, released_ends, touched_rows, touched_ends, marked_rows, marked_ends, room_rows, room_ends, taken_rows, taken_ends, entered_rows, entered_ends, seat_of, seated_rows, fresh_from};
+ghost use Rattle.rows.specs.Links.{blank, with_links, nexted, preved, part_at, parted_rows, fresh_from};
 ghost use Rattle.rows.specs.declared.Row.{Row};
-ghost use Rattle.scans.specs.Ends.{linked_ends};
 ghost use Rattle.rows.specs.Search.{step_of, scanned};
 ghost use Rattle.flat.specs.Table.{rows_of, Left};
 ghost use Rattle.glances.specs.Glances.{links_of, glance_of};
 ghost use Rattle.packing.specs.Words.{key_of};
 ghost use Rattle.chains.specs.Lent.{LeftLaws, LeftRows, same_rows, rows_left, words_left, few_numbers};
 
-use glances::{Glance, Links};
+use glances::Glance;
 use receiver::Part;
-use rows::{Row, Seat};
-use scans::{Cursor, Ends, Key};
+use rows::Row;
+use scans::{Cursor, Ends, Key, Links};
+pub use steps::Chains;
 use table::Refusal;
 
 // ---- what rows are lent as
@@ -70,6 +72,7 @@ pub trait Lent: Copy {
     fn put(rows: &mut [Self], at: u32, row: Row)
         ensures { rows_in rows.new ≡ set (rows_in rows.old) at row };
 
+    // By a usize, as a loop counts them, of a row that is there: `put` would take a conversion and a test for each (d).
     fn make(rows: &mut [Self], i: usize, row: Row)
         requires { can_make (length (rows_in rows.old)) × (i < length (rows_in rows.old)) }
         ensures { rows_in rows.new ≡ set (rows_in rows.old) i row };
@@ -77,8 +80,8 @@ pub trait Lent: Copy {
     fn links_at(rows: &[Self], at: u32) -> Links
         ensures { result ≡ links_of (get_or (rows_in rows.now) at blank) };
 
-    fn set_links(rows: &mut [Self], at: u32, p: u32, n: u32)
-        ensures { rows_in rows.new ≡ set (rows_in rows.old) at (with_links (get_or (rows_in rows.old) at blank) p n) };
+    fn set_links(rows: &mut [Self], at: u32, links: Links)
+        ensures { rows_in rows.new ≡ set (rows_in rows.old) at (with_links (get_or (rows_in rows.old) at blank) links.prev links.next) };
 
     // This and `set_prev` are no twins, here and in each form of rows: no parameter names a field (d).
     fn set_next(rows: &mut [Self], at: u32, n: u32)
@@ -135,26 +138,14 @@ impl Lent for Row {
         rows[i] = row;
     }
 
-    // No `From`: nothing else takes the links out of a row (d).
     fn links_at(rows: &[Row], at: u32) -> Links {
-        let row = Row::get(rows, at);
-        Links {
-            prev: row.prev,
-            next: row.next,
-        }
+        Links::from(Row::get(rows, at))
     }
 
-    fn set_links(rows: &mut [Row], at: u32, p: u32, n: u32) {
+    fn set_links(rows: &mut [Row], at: u32, links: Links) {
         let row = Row::get(rows, at);
-        Row::put(
-            rows,
-            at,
-            Row {
-                prev: p,
-                next: n,
-                ..row
-            },
-        );
+        let Links { prev, next } = links;
+        Row::put(rows, at, Row { prev, next, ..row });
     }
 
     fn set_next(rows: &mut [Row], at: u32, n: u32) {
@@ -221,8 +212,8 @@ impl Lent for u64 {
         glances::links_at(rows, at)
     }
 
-    fn set_links(rows: &mut [u64], at: u32, p: u32, n: u32) {
-        glances::set_links(rows, at, p, n);
+    fn set_links(rows: &mut [u64], at: u32, links: Links) {
+        glances::set_links(rows, at, links);
     }
 
     fn set_next(rows: &mut [u64], at: u32, n: u32) {
@@ -244,104 +235,6 @@ impl Lent for u64 {
     ghost makes = { few_numbers };
 
     ghost leaves = { words_left };
-}
-
-// ---- steps on the chains
-
-// Takes row i out of the used chain, leaving its part.
-fn unlink<W: Lent>(rows: &mut [W], e: Ends, i: u32) -> Ends
-    ensures { (result ≡ unlinked_ends (W.rows_in rows.old) e i) × (W.rows_in rows.new ≡ unlinked_rows (W.rows_in rows.old) i) }
-{
-    let l = W::links_at(rows, i);
-    W::set_next(rows, l.prev, l.next);
-    W::set_prev(rows, l.next, l.prev);
-    scans::out_ends(e, l.prev, l.next)
-}
-
-// Puts row i last in the used chain: the most recently used.
-fn link_last<W: Lent>(rows: &mut [W], e: Ends, i: u32) -> Ends
-    ensures { (result ≡ linked_ends e i) × (W.rows_in rows.new ≡ linked_rows (W.rows_in rows.old) e i) }
-{
-    W::set_links(rows, i, e.tail, scans::no_row());
-    W::set_next(rows, e.tail, i);
-    scans::linked_ends(e, i)
-}
-
-// Takes row i out of the used chain and frees it: it becomes as fresh, and heads the free chain.
-pub fn release<W: Lent>(rows: &mut [W], e: Ends, i: u32) -> Ends
-    ensures { (result ≡ released_ends (W.rows_in rows.old) e i) × (W.rows_in rows.new ≡ released_rows (W.rows_in rows.old) e i) }
-{
-    let d = unlink(rows, e, i);
-    W::put(rows, i, rows::unmade_row(e.free));
-    scans::with_free(d, i)
-}
-
-// Marks row i: it is freed after every row marked longer ago.
-fn touch<W: Lent>(rows: &mut [W], e: Ends, i: u32) -> Ends
-    ensures { (result ≡ touched_ends (W.rows_in rows.old) e i) × (W.rows_in rows.new ≡ touched_rows (W.rows_in rows.old) e i) }
-{
-    let d = unlink(rows, e, i);
-    link_last(rows, d, i)
-}
-
-// Row i gets a part, and is marked.
-pub fn mark<W: Lent>(rows: &mut [W], e: Ends, i: u32, part: Part) -> Ends
-    ensures { (result ≡ marked_ends (W.rows_in rows.old) e i part) × (W.rows_in rows.new ≡ marked_rows (W.rows_in rows.old) e i part) }
-{
-    W::set_part(rows, i, part);
-    touch(rows, e, i)
-}
-
-// With no row free, frees the least recently used.
-fn make_room<W: Lent>(rows: &mut [W], e: Ends) -> Ends
-    ensures { (result ≡ room_ends (W.rows_in rows.old) e) × (W.rows_in rows.new ≡ room_rows (W.rows_in rows.old) e) }
-{
-    if scans::is_none(e.free) {
-        return release(rows, e, e.head);
-    }
-    e
-}
-
-// The first free row is taken for the key, and is the most recently used. Key and part, here and wherever a row is made, are two fields of it beside its links: a
-// struct of the two would be taken apart there (d).
-fn take_free<W: Lent>(rows: &mut [W], e: Ends, key: Key, part: Part) -> Ends
-    ensures { (result ≡ taken_ends (W.rows_in rows.old) e) × (W.rows_in rows.new ≡ taken_rows (W.rows_in rows.old) e key part) }
-{
-    let i = e.free;
-    let old = W::get(rows, i);
-    W::put(rows, i, rows::made_row(old, key, part));
-    link_last(rows, scans::with_free(e, old.next), i)
-}
-
-// A row is made for the key, where no row is free in place of the least recently used.
-fn enter<W: Lent>(rows: &mut [W], e: Ends, key: Key, part: Part) -> Ends
-    ensures { (result ≡ entered_ends (W.rows_in rows.old) e) × (W.rows_in rows.new ≡ entered_rows (W.rows_in rows.old) e key part) }
-{
-    let d = make_room(rows, e);
-    take_free(rows, d, key, part)
-}
-
-// Writes the key's part and marks its row, in one step: the row that has the key, or one that is made.
-pub fn insert_active<W: Lent>(
-    rows: &mut [W],
-    e: Ends,
-    at: Option<u32>,
-    key: Key,
-    part: Part,
-) -> Seat
-    ensures { (result ≡ seat_of (W.rows_in rows.old) e at part) × (W.rows_in rows.new ≡ seated_rows (W.rows_in rows.old) e at key part) }
-{
-    match at {
-        Some(i) => {
-            let d = mark(rows, e, i, part);
-            rows::kept_seat(d, i)
-        }
-        None => {
-            let old = W::get(rows, e.head);
-            let d = enter(rows, e, key, part);
-            rows::made_seat(e, old, d)
-        }
-    }
 }
 
 // ---- questions 1 to 3
@@ -404,11 +297,12 @@ pub fn part_at<W: Lent>(rows: &[W], at: Option<u32>) -> Part
 // ---- fresh rows
 
 // Every row becomes fresh, row i of n, in the free chain in ascending number.
-pub fn fresh_rows<W: Lent>(rows: &mut [W], n: usize)
+pub fn fresh_rows<W: Lent>(rows: &mut [W])
     requires { W.can_make (length (W.rows_in rows.old)) }
-    ensures { W.rows_in rows.new ≡ fresh_from n 0 (length (W.rows_in rows.old)) }
+    ensures { W.rows_in rows.new ≡ fresh_from (length (W.rows_in rows.old)) 0 (length (W.rows_in rows.old)) }
 {
-    for i in 0..W::count(rows) {
+    let n = W::count(rows);
+    for i in 0..n {
         W::make(rows, i, rows::fresh_row(n, i));
     }
 }

@@ -1,10 +1,10 @@
 -- One turn of a loop over the bytes of a slice: what each definition says of the bytes from i on, by the byte at i and those from i + 1 on.
 use Rattle.std.specs.Prelude.{Some, None, Option, MatchOption}
-use Rattle.std.specs.Option.{unwrap_or}
+use Rattle.std.specs.Option.{unwrap_or, is_some}
 use Rattle.std.specs.Char.{is_ascii_graphic}
 use Rattle.std.specs.List.{position, position_or_len}
-use mathlib.Core.Path.{◌≡◌, refl, sym, ap, ◌∙◌}
-use mathlib.Core.Bool.{Bool, true, false, ◌&&◌, cond, not, and-false}
+use mathlib.Core.Path.{◌≡◌, refl, sym, ap, subst, ◌∙◌}
+use mathlib.Core.Bool.{Bool, true, false, ◌&&◌, cond, not, and-false, true≢false}
 use mathlib.Core.Logic.{◌⊎◌, inl, inr}
 use mathlib.Core.List.{List, [], ◌∷◌}
 use Prim.Native.Nat.{ℕ, zero, suc, ◌+◌, ◌-◌, ◌≤◌, ◌<◌}
@@ -14,10 +14,11 @@ use borrow.Author.Tests.{eq-eqb, ne_eqb, le-leb, lt-leb, lt-ltb, le-ltb, ltb-fal
 use lib.Dec.{eqb, ltb, leb}
 use lib.Pointwise.{pointwise}
 use denote.Bor.{Bor}
-use Rattle.std.proofs.lemmas.List.{drop_more}
+use Rattle.std.proofs.lemmas.Bool.{ltb-true}
+use Rattle.std.proofs.lemmas.List.{drop_more, get_or-take}
 use lib.ListN.{length, get_or, take, drop, drop_of_length-le, length-drop}
 use lib.Seq.{take_all, length-take-le, length_front}
-use Rattle.fields.specs.Text.{first_of, back_over, text_end, part_of, same_bytes, printable, moved_to}
+use Rattle.fields.specs.Text.{first_of, first_in, back_over, text_end, part_of, same_bytes, printable, moved_to}
 
 -- ---- find
 pub find_le : (c : ℕ) (s : List ℕ) → first_of c s ≤ length s
@@ -37,34 +38,72 @@ first_is c (x ∷ s) = by (eqb x c) (first_is c s) where
   by true e = refl
   by false e = one-add (position_or_len (λ y. eqb y c) s) ∙ ap suc e
 
-pub find_is : (c : ℕ) (s : List ℕ) (r : Option ℕ) (n : ℕ) → n ≡ unwrap_or r (length s) → r ≡ position (λ x. eqb x c) s → n ≡ first_of c s
-find_is c s r n f e = f ∙ ap (λ (o : Option ℕ). unwrap_or o (length s)) e ∙ by (position_or_len (λ x. eqb x c) s) (first_is c s) (ltb (position_or_len (λ x. eqb x c) s) (length s)) refl where
-  by : (n : ℕ) → n ≡ first_of c s → (b : Bool) → ltb n (length s) ≡ b → unwrap_or (cond b (Some n) None) (length s) ≡ first_of c s
-  by n q true h = q
-  by n q false h = let p : length s ≤ n = ltb-false n (length s) h in omega (arith, find_le c s)
+pub first_found : (c : ℕ) (s : List ℕ) (r : Option ℕ) → r ≡ position (λ x. eqb x c) s → r ≡ first_in c s
+unfolding first_in
+first_found c s r e = e ∙ ap (λ n. cond (ltb n (length s)) (Some n) None) (first_is c s)
+
+pub find_is : (c : ℕ) (s : List ℕ) {r : Option ℕ} {n : ℕ} → n ≡ unwrap_or r (length s) → r ≡ first_in c s → n ≡ first_of c s
+unfolding first_in
+find_is c s f e = f ∙ ap (λ (o : Option ℕ). unwrap_or o (length s)) e ∙ by (first_of c s) (find_le c s) (ltb (first_of c s) (length s)) refl where
+  by : (n : ℕ) → n ≤ length s → (b : Bool) → ltb n (length s) ≡ b → unwrap_or (cond b (Some n) None) (length s) ≡ n
+  by n h true e = refl
+  by n h false e = let p : length s ≤ n = ltb-false n (length s) e in omega (arith, h)
+
+-- what an answer of `first_place` says
+pub first_some : (c : ℕ) (s : List ℕ) (n : ℕ) → Some n ≡ first_in c s → (n ≡ first_of c s) × (n < length s)
+unfolding first_in
+first_some c s n e = by (first_of c s) (ltb (first_of c s) (length s)) refl e where
+  by : (m : ℕ) (b : Bool) → ltb m (length s) ≡ b → Some n ≡ cond b (Some m) None → (n ≡ m) × (n < length s)
+  by m true h e = let q : n ≡ m = ap (λ (o : Option ℕ). unwrap_or o 0) e in (q, subst (λ k. k < length s) (sym q) (ltb-true m (length s) h))
+  by m false h e = absurd (true≢false (ap is_some e))
+
+pub first_none : (c : ℕ) (s : List ℕ) → None ≡ first_in c s → length s ≤ first_of c s
+unfolding first_in
+first_none c s e = by (first_of c s) (ltb (first_of c s) (length s)) refl e where
+  by : (m : ℕ) (b : Bool) → ltb m (length s) ≡ b → None ≡ cond b (Some m) None → length s ≤ m
+  by m true h e = absurd (true≢false (sym (ap is_some e)))
+  by m false h e = ltb-false m (length s) h
 
 -- ---- back over spaces
-pub back_space : (s : List ℕ) (n m : ℕ) → n ≡ suc m → get_or s m 0 ≡ 32 → back_over s n ≡ back_over s m
+spaces_from : (s : List ℕ) (n d : ℕ) → ((k : ℕ) → n ≤ k → k < n + d → get_or s k 0 ≡ 32) → back_over s (n + d) ≡ back_over s n
 unfolding back_over
-back_space s n m e h = ap (back_over s) e ∙ rw (eq-eqb _ 32 h)
+spaces_from s n zero h = let l : n + 0 ≡ n = omega arith in ap (back_over s) l
+spaces_from s n (suc d) h = let l : n + suc d ≡ suc (n + d) = omega arith in ap (back_over s) l ∙ rw (eq-eqb _ 32 (h (n + d) (omega arith) (omega arith))) (spaces_from s n d (λ k a b. h k a (omega arith)))
 
-pub back_stop : (s : List ℕ) (n m : ℕ) → n ≡ suc m → (get_or s m 0 ≡ 32 → ⊥) → back_over s n ≡ n
+pub back_found : (s : List ℕ) (n : ℕ) → n < length s → (get_or s n 0 ≡ 32 → ⊥) → ((k : ℕ) → n + 1 ≤ k → k < length s → get_or s k 0 ≡ 32) → back_over s (length s) ≡ n + 1
 unfolding back_over
-back_stop s n m e h = ap (back_over s) e ∙ (rw (ne_eqb _ 32 h) (sym e))
+back_found s n h q e =
+    let d = length s - (n + 1) in
+    let l : n + 1 + d ≡ length s = omega arith in
+    ap (back_over s) (sym l) ∙ spaces_from s (n + 1) d (λ k a b. e k a (omega arith)) ∙ stop
+  where
+    stop : back_over s (n + 1) ≡ n + 1
+    stop = let l : n + 1 ≡ suc n = omega arith in ap (back_over s) l ∙ rw (ne_eqb _ 32 q) (sym l)
 
-pub back_none : (s : List ℕ) (n : ℕ) → n ≤ 0 → back_over s n ≡ n
+pub back_none : (s : List ℕ) → ((k : ℕ) → k < length s → get_or s k 0 ≡ 32) → back_over s (length s) ≡ 0
 unfolding back_over
-back_none s zero h = refl
-back_none s (suc n) h = absurd (omega arith)
+back_none s e =
+    let l : 0 + length s ≡ length s = omega arith in
+    ap (back_over s) (sym l) ∙ spaces_from s 0 (length s) (λ k a b. e k (omega arith))
+
+-- a part is moved back over as in its line
+pub back_front : (s : List ℕ) (n : ℕ) → n ≤ length s → back_over (take n s) n ≡ back_over s n
+unfolding back_over
+back_front s n h = by n (omega arith) where
+  by : (m : ℕ) → m ≤ n → back_over (take n s) m ≡ back_over s m
+  by zero l = refl
+  by (suc m) l = rw (get_or-take n s m 0 (omega arith)) (ap (λ k. cond (eqb (get_or s m 0) 32) k (suc m)) (by m (omega arith)))
 
 -- ---- a line with a comment, and one without
-pub text_comment : (line : List ℕ) (hash : ℕ) → hash ≡ first_of 35 line → hash < length line → text_end line ≡ back_over line hash
+pub text_comment : (line : List ℕ) (hash : ℕ) → Some hash ≡ first_in 35 line → back_over (take hash line) (length (take hash line)) ≡ text_end line
 unfolding text_end
-text_comment line hash e h = rw (← e) (rw (lt-ltb hash (length line) h))
+text_comment line hash e =
+    let f = first_some 35 line hash e in
+    ap (back_over (take hash line)) (length-take-le hash line (omega (arith, f.1))) ∙ back_front line hash (omega (arith, f.1)) ∙ rw (← f.0, lt-ltb hash (length line) f.1) refl
 
-pub text_whole : (line : List ℕ) (hash : ℕ) → hash ≡ first_of 35 line → length line ≤ hash → text_end line ≡ length line
+pub text_whole : (line : List ℕ) → None ≡ first_in 35 line → text_end line ≡ length line
 unfolding text_end
-text_whole line hash e h = rw (← e) (rw (le-ltb hash (length line) h))
+text_whole line e = rw (le-ltb (first_of 35 line) (length line) (first_none 35 line e)) refl
 
 -- ---- the same bytes
 -- the library's comparison of slices

@@ -1,5 +1,5 @@
 -- A line of a list of calls, as bytes: its text, its fields, its words. Definitions only.
-use Rattle.std.specs.Prelude.{ℕ, zero, suc, ◌+◌, ◌-◌, min, Bool, true, false, ◌&&◌, cond, List, [], ◌∷◌, ◌++◌, length, get_or, take, drop, eqb, leb, ltb, None, Some, Option, Ok, Err, Result}
+use Rattle.std.specs.Prelude.{ℕ, zero, suc, ◌+◌, ◌-◌, min, Bool, true, false, ◌&&◌, cond, List, [], ◌∷◌, ◌++◌, length, get_or, take, drop, eqb, leb, ltb, None, Some, Option, Ok, Err, Result, option_map}
 use Prim.Native.Char.{code}
 use Prim.Native.String.{String, [] as none, ◌∷◌ as ◌before◌}
 use Rattle.fields.specs.declared.Field.{Field}
@@ -15,6 +15,11 @@ unfoldable pub first_of : ℕ → List ℕ → ℕ
 first_of c [] = 0
 first_of c (x ∷ s) = cond (eqb x c) 0 (suc (first_of c s))
 
+-- where it stands, if it stands in s
+unfoldable pub first_in : ℕ → List ℕ → Option ℕ
+unfolding first_of
+first_in c s = cond (ltb (first_of c s) (length s)) (Some (first_of c s)) None
+
 -- the end n of a part of s from its start, moved back over the spaces (32) before it
 unfoldable pub back_over : List ℕ → ℕ → ℕ
 back_over s zero = 0
@@ -25,14 +30,23 @@ unfoldable pub text_end : List ℕ → ℕ
 unfolding first_of back_over
 text_end line = cond (ltb (first_of 35 line) (length line)) (back_over line (first_of 35 line)) (length line)
 
+-- a field's bytes, and where the next field starts
+pub record Piece : Type 0 where
+  pub bytes : List ℕ
+  pub next : ℕ
+
+abbrev pub seen : Result (Option Field) Stray → Result (Option Piece) Stray
+seen (Ok f) = Ok (option_map (λ f. record { bytes = f.bytes.now; next = f.next }) f)
+seen (Err e) = Err e
+
 -- Fields are separated by single spaces, the parts of a field by single commas: the one that starts at `from` runs up to the next separator, or to the end of the text,
 -- and the next one starts past that separator. Two separators in a row, or one at either end, leave a field of no bytes: a stray one. Past the end of the text there is no field.
-unfoldable pub field_at : ℕ → List ℕ → ℕ → Result (Option Field) Stray
+unfoldable pub field_at : ℕ → List ℕ → ℕ → Result (Option Piece) Stray
 unfolding first_of
 field_at sep t from =
     cond (ltb (length t) from) (Ok None)
     (cond (eqb (first_of sep (drop from t)) 0) (Err (record { sep = sep }))
-    (Ok (Some (record { start = from; end = from + first_of sep (drop from t); next = from + first_of sep (drop from t) + 1 }))))
+    (Ok (Some (record { bytes = take (first_of sep (drop from t)) (drop from t); next = from + first_of sep (drop from t) + 1 }))))
 
 -- the bytes of s from a up to e, none where s has no such part
 unfoldable pub part_of : List ℕ → ℕ → ℕ → List ℕ

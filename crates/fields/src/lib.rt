@@ -1,14 +1,13 @@
 // A list of calls, taken apart: a line's text, its fields, its words. Nothing here knows a call.
 #![tactic(auto)]
 
-ghost use Rattle.std.specs.Prelude.{◌≡◌, ◌≤◌, ◌-◌, length};
-ghost use Rattle.fields.specs.Text.{first_of, back_over, text_end, field_at, part_of, same_bytes, shown_of, moved_to};
+ghost use Rattle.std.specs.Prelude.{◌≡◌, ◌≤◌, ◌<◌, ◌-◌, length, IfSome};
+ghost use Rattle.fields.specs.Text.{first_of, first_in, back_over, text_end, seen, field_at, part_of, shown_of, moved_to};
 
-// A field of a text: the bytes from `start` up to `end`, and where the next field starts.
+// A field of a text, and where the next one starts.
 #[derive(Clone, Copy)]
-pub struct Field {
-    pub start: usize,
-    pub end: usize,
+pub struct Field<'a> {
+    pub bytes: &'a [u8],
     pub next: usize,
 }
 
@@ -18,71 +17,65 @@ pub struct Stray {
     pub sep: u8,
 }
 
-// Where a byte first stands, or the length: where to cut.
+// Where a byte first stands, if it stands in the slice.
+pub fn first_place(s: &[u8], byte: u8) -> Option<usize>
+    ensures is { result ≡ first_in byte s.now }
+    ensures inside { IfSome result (λ n. n < length s.now) }
+{
+    s.iter().position(|&b| b == byte)
+}
+
+// How many bytes stand before the first that is this one, all where none is: where to cut.
 pub fn find(s: &[u8], byte: u8) -> usize
     ensures { result ≡ first_of byte s.now }
 {
-    s.iter().position(|&b| b == byte).unwrap_or(s.len())
+    first_place(s, byte).unwrap_or(s.len())
 }
 
-// The end of a part, moved back over spaces.
-fn back_over(s: &[u8], end: usize) -> usize
-    requires { end ≤ length s.now }
-    ensures { result ≡ back_over s.now end }
+// How long a part is without the spaces at its end.
+fn back_over(part: &[u8]) -> usize
+    ensures { result ≡ back_over part.now (length part.now) }
 {
-    for n in (0..end).rev() {
-        if s[n] != b' ' {
-            return n + 1;
-        }
+    match part.iter().rposition(|&b| b != b' ') {
+        Some(n) => n + 1,
+        None => 0,
     }
-    0
 }
 
 // Where a line's text ends and its comment starts, if it has one.
 pub fn text_end(line: &[u8]) -> usize
     ensures { result ≡ text_end line.now }
 {
-    let hash = find(line, b'#');
-    if hash < line.len() {
-        back_over(line, hash)
-    } else {
-        line.len()
+    match first_place(line, b'#') {
+        Some(hash) => back_over(&line[..hash]),
+        None => line.len(),
     }
 }
 
 // The field that starts at `from`, none past the end of the text. The next one starts past the `sep` after it. A place and no rest of the text:
 // an empty rest would not tell the end from a `sep` at the end (d).
-pub fn next_field(t: &[u8], from: usize, sep: u8) -> Result<Option<Field>, Stray>
-    ensures { result ≡ field_at sep t.now from }
+pub fn next_field(t: &[u8], from: usize, sep: u8) -> Result<Option<Field<'_>>, Stray>
+    ensures { seen result ≡ field_at sep t.now from }
 {
     if from > t.len() {
         return Ok(None);
     }
-    let n = find(&t[from..], sep);
+    let rest = &t[from..];
+    let n = find(rest, sep);
     if n == 0 {
         return Err(Stray { sep });
     }
-    let end = from + n;
-    let next = end + 1;
     Ok(Some(Field {
-        start: from,
-        end,
-        next,
+        bytes: &rest[..n],
+        next: from + n + 1,
     }))
 }
 
-// A part of the bytes, empty where there is no such part. Two numbers, here, in `to_front` and in `lines`: callers have both, a range would be made for the call (d).
+// A part of the bytes, empty where there is no such part. Two numbers, here, in `to_front` and in `lines`: callers may have an end past the slice or before the start, which is empty (d).
 pub fn part(s: &[u8], start: usize, end: usize) -> &[u8]
     ensures { result.now ≡ part_of s.now start end }
 {
     s.get(start..end).unwrap_or(&[])
-}
-
-// Whether two slices hold the same bytes, in the words that callers promise: `==` there would take a lemma at each of seven calls.
-pub fn same(s: &[u8], word: &[u8]) -> bool
-    ensures { result ≡ same_bytes s.now word.now }
-{
-    s == word
 }
 
 // How many bytes of a word an answer may show.

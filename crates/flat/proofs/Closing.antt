@@ -1,15 +1,16 @@
 -- What a row's stores come to: its words, in a run. Each function's store is the last run, after those of the calls before it.
 use Rattle.std.specs.Prelude.{Option}
-use mathlib.Core.Path.{◌≡◌, refl, sym, ap, ap₂, ◌∙◌}
-use Prim.Native.Nat.{ℕ}
+use mathlib.Core.Path.{◌≡◌, refl, sym, ap, ap₂, ◌∙◌, subst}
+use Prim.Native.Nat.{ℕ, ◌≤◌}
 use native.Mathlib.Omega.{arith}
 use mathlib.Core.List.{List, [], ◌∷◌, ◌++◌}
 use lib.ListN.{length, set, length-append}
 use lib.Seq.{sets}
 use Rattle.heard.specs.declared.Heard.{Heard}
 use Rattle.rows.specs.declared.Row.{Row}
+use Rattle.scans.specs.declared.Links.{Links}
 use Rattle.flat.specs.Words.{heard_words, closed_of}
-use Rattle.packing.specs.Words.{key_words, site_words, id_words, verdict_words}
+use Rattle.packing.specs.Words.{most32, key_words, site_words, id_words, verdict_words}
 use Rattle.packing.proofs.Runs.{runs4, over_all}
 use Rattle.packing.proofs.Lengths.{key_words_lem, site_words_lem, id_words_lem, verdict_words_lem}
 
@@ -36,10 +37,18 @@ heard_puts l w x y z s e o g h es eg ee eo ew ex ey ez =
 pub tail_puts : (l z : List ℕ) (a b p n : ℕ) (c : Option ℕ) → a ≡ p → b ≡ n → z ≡ sets (set (set l 21 a) 22 b) 23 (id_words c) → z ≡ sets l 21 (p ∷ n ∷ id_words c)
 tail_puts l z a b p n c ea eb ez = ez ∙ ap₂ (λ (x y : ℕ). sets (set (set l 21 x) 22 y) 23 (id_words c)) ea eb
 
-pub closes : (l w x y z k v : List ℕ) (r : Row) → length l ≡ 25 → k ≡ key_words r.key → v ≡ verdict_words r.part.verdict → w ≡ sets l 0 k → x ≡ sets w 4 (heard_words r.part.heard)
-    → y ≡ sets x 14 v → z ≡ sets y 21 (r.prev ∷ r.next ∷ id_words r.part.judged_ms) → z ≡ closed_of r
+abbrev links_of : Row → Links
+links_of r = record { prev = r.prev; next = r.next }
+
+pub closes : (l w x y z k v : List ℕ) (r : Row) (m : Links) → length l ≡ 25 → m ≡ links_of r → k ≡ key_words r.key → v ≡ verdict_words r.part.verdict → w ≡ sets l 0 k → x ≡ sets w 4 (heard_words r.part.heard)
+    → y ≡ sets x 14 v → z ≡ sets y 21 (m.prev ∷ m.next ∷ id_words r.part.judged_ms) → z ≡ closed_of r
 unfolding closed_of
-closes l w x y z k v r e ek ev ew ex ey ez =
+closes l w x y z k v r m e em ek ev ew ex ey ez =
     runs4 l (key_words r.key) (heard_words r.part.heard) (verdict_words r.part.verdict) (r.prev ∷ r.next ∷ id_words r.part.judged_ms) w x y z 0 4 14 21
-    (omega (arith, key_words_lem r.key)) (omega (arith, heard_words_lem r.part.heard)) (omega (arith, verdict_words_lem r.part.verdict)) (ew ∙ ap (sets l 0) ek) ex (ey ∙ ap (sets x 14) ev) ez
+    (omega (arith, key_words_lem r.key)) (omega (arith, heard_words_lem r.part.heard)) (omega (arith, verdict_words_lem r.part.verdict)) (ew ∙ ap (sets l 0) ek) ex (ey ∙ ap (sets x 14) ev)
+    (ez ∙ ap (λ (n : Links). sets y 21 (n.prev ∷ n.next ∷ id_words r.part.judged_ms)) em)
     ∙ over_all l (closed_of r) (row_words_lem r ∙ sym e)
+
+-- links in range, and the row that they are of
+pub links_in : (r : Row) (m : Links) → m ≡ links_of r → m.prev ≤ most32 → m.next ≤ most32 → (r.prev ≤ most32) × (r.next ≤ most32)
+links_in r m em hp hn = (subst (λ (n : Links). n.prev ≤ most32) em hp, subst (λ (n : Links). n.next ≤ most32) em hn)

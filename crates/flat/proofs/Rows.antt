@@ -1,7 +1,7 @@
 -- The rows of a slice of words, by their places: one row's words are all that its row is read from, and a store of them changes that row alone.
 use mathlib.Core.Path.{◌≡◌, refl, sym, ap, ◌∙◌, subst}
 use mathlib.Core.Logic.{◌≢◌}
-use Prim.Native.Nat.{ℕ, zero, suc, ◌+◌, ◌-◌, ◌*◌, ◌/◌, ◌%◌, ◌≤◌, ◌<◌}
+use Prim.Native.Nat.{ℕ, zero, suc, ◌+◌, ◌*◌, ◌/◌, ◌%◌, ◌≤◌, ◌<◌}
 use native.Mathlib.Omega.{arith}
 use native.Mathlib.Nat.{div-add-mod', mul-le-mul_right}
 use mathlib.Core.Bool.{Bool, true, false, cond}
@@ -169,37 +169,36 @@ row_opens ws i inside = let h = has ws i inside in ap (λ (l : List Row). get_or
 pub got : (ws l : List ℕ) (i : ℕ) (t : Bool) (r : Row) → t ≡ leb (length (rows_of ws)) i → t ≡ false → l ≡ take words_of_row (drop (words_of_row * i) ws) → r ≡ opened_of l → r ≡ get_or (rows_of ws) i blank
 got ws l i t r e f el er = er ∙ ap opened_of el ∙ sym (row_opens ws i (leb-false (length (rows_of ws)) i (sym e ∙ f)))
 
--- ONE ROW'S WORDS, from the a-th to before the z-th
-module _ (ws : List ℕ) (i a z : ℕ) (inside : i < length (rows_of ws)) (ea : a ≡ words_of_row * i) (ez : z ≡ words_of_row * i + words_of_row) where
-  wide : z - a ≡ words_of_row
-  wide = omega (arith, ea, ez)
+-- ONE ROW'S WORDS, from the a-th on
+module _ (ws : List ℕ) (i a : ℕ) (inside : i < length (rows_of ws)) (ea : a ≡ words_of_row * i) where
+  room : a + 25 ≤ length ws
+  room = let h = has ws i inside in omega (arith, ea, wide_is, room_for ws (length ws / words_of_row) i (whole ws i h) h.within)
 
-  pub words_are : take (z - a) (drop a ws) ≡ take words_of_row (drop (words_of_row * i) ws)
-  words_are = ap (λ (n : ℕ). take n (drop a ws)) wide ∙ ap (λ (n : ℕ). take words_of_row (drop n ws)) ea
+  pub start_in : a ≤ length ws
+  start_in = omega (arith, room)
 
-  pub end_in : z ≤ length ws
-  end_in = let h = has ws i inside in omega (arith, ez, room_for ws (length ws / words_of_row) i (whole ws i h) h.within)
+  pub rest_long : 25 ≤ length (drop a ws)
+  rest_long = omega (arith, room, length-drop a ws)
 
-  -- they are a row's 25
-  pub part_is : length (take (z - a) (drop a ws)) ≡ 25
-  part_is = omega (arith, length-take (z - a) (drop a ws), length-drop a ws, end_in, ea, ez, wide_is)
+  pub words_are : take 25 (drop a ws) ≡ take words_of_row (drop (words_of_row * i) ws)
+  words_are = ap (λ (n : ℕ). take n (drop a ws)) wide_is ∙ ap (λ (n : ℕ). take words_of_row (drop n ws)) ea
 
   -- other words in their place
   module _ (ys : List ℕ) (long : length ys ≡ 25) where
     abbrev after : List ℕ
-    after = take a ws ++ (ys ++ drop (z - a) (drop a ws))
+    after = take a ws ++ (ys ++ drop 25 (drop a ws))
 
     pub put_long : length after ≡ length ws
     put_long =
-        length-append (take a ws) (ys ++ drop (z - a) (drop a ws))
-        ∙ omega (arith, end_in, ea, ez, wide_is, length-take a ws, length-append ys (drop (z - a) (drop a ws)), length-drop (z - a) (drop a ws), length-drop a ws, long)
+        length-append (take a ws) (ys ++ drop 25 (drop a ws))
+        ∙ omega (arith, room, length-take a ws, length-append ys (drop 25 (drop a ws)), length-drop 25 (drop a ws), length-drop a ws, long)
 
     pub stored : rows_of after ≡ set (rows_of ws) i (opened_of ys)
     unfolding rows_of
     stored =
         let h = has ws i inside in
         let n = length ws / words_of_row in
-        let same : after ≡ with_row ws i ys = ap (λ (m : ℕ). take a ws ++ (ys ++ drop m (drop a ws))) wide ∙ ap (λ (m : ℕ). take m ws ++ (ys ++ drop words_of_row (drop m ws))) ea in
+        let same : after ≡ with_row ws i ys = ap (λ (m : ℕ). take a ws ++ (ys ++ drop m (drop a ws))) wide_is ∙ ap (λ (m : ℕ). take m ws ++ (ys ++ drop words_of_row (drop m ws))) ea in
         let even : eqb (length after % words_of_row) 0 ≡ true = ap (λ (m : ℕ). eqb (m % words_of_row) 0) put_long ∙ eq-eqb (length ws % words_of_row) 0 h.even in
         ap (λ (b : Bool). cond b (rows_from (length after / words_of_row) after) []) even
         ∙ ap (λ (m : ℕ). rows_from (m / words_of_row) after) put_long
@@ -207,5 +206,5 @@ module _ (ws : List ℕ) (i a z : ℕ) (inside : i < length (rows_of ws)) (ea : 
         ∙ row_put n i ws ys h.within (omega (arith, whole ws i h)) (long ∙ wide_is)
         ∙ ap (λ (rs : List Row). set rs i (opened_of ys)) (sym h.all)
 
-  pub puts : (ys : List ℕ) (r : Row) → ys ≡ closed_of r → RowIn r → rows_of (take a ws ++ (ys ++ drop (z - a) (drop a ws))) ≡ set (rows_of ws) i r
+  pub puts : (ys : List ℕ) (r : Row) → ys ≡ closed_of r → RowIn r → rows_of (take a ws ++ (ys ++ drop 25 (drop a ws))) ≡ set (rows_of ws) i r
   puts ys r g k = stored ys (ap length g ∙ row_words_lem r) ∙ ap (set (rows_of ws) i) (ap opened_of g ∙ opened_closed r k)

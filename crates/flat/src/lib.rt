@@ -14,9 +14,10 @@ ghost use Rattle.packing.specs.Words.{most32, id_words};
 ghost use Rattle.packing.specs.Ranges.{IdIn};
 
 use heard::Heard;
-use packing::Word;
+use packing::{Word, Words};
 use receiver::Part;
 use rows::Row;
+use scans::Links;
 use sites::Site;
 use verdicts::Verdict;
 
@@ -27,41 +28,38 @@ pub fn put_heard(words: &mut [u64], heard: Heard)
     requires { 25 ≤ length words.old }
     ensures { (words.new ≡ sets words.old 4 (row.heard_words heard)) × HeardIn heard }
 {
-    packing::put(words, 4, &packing::site_words(heard.site));
+    packing::put(words, 4, &heard.site.words());
     words[9] = heard.generation.word();
-    packing::put(words, 10, &packing::maybe_words(heard.even));
-    packing::put(words, 12, &packing::maybe_words(heard.odd));
+    packing::put(words, 10, &heard.even.words());
+    packing::put(words, 12, &heard.odd.words());
 }
 
 pub fn put_clock(words: &mut [u64], kept: Option<u64>)
     requires { 25 ≤ length words.old }
     ensures { (words.new ≡ sets words.old 23 (id_words kept)) × IdIn kept }
 {
-    packing::put(words, 23, &packing::maybe_words(kept));
+    packing::put(words, 23, &kept.words());
 }
 
 // The links, and the clock behind them.
-fn put_tail(words: &mut [u64], p: u32, n: u32, kept: Option<u64>)
-    requires { 25 ≤ length words.old }
-    ensures { (words.new ≡ sets words.old 21 (p ∷ n ∷ id_words kept)) × (p ≤ most32) × (n ≤ most32) × IdIn kept }
+fn put_tail(words: &mut [u64; 25], links: Links, kept: Option<u64>)
+    ensures { (words.new ≡ sets words.old 21 (links.prev ∷ links.next ∷ id_words kept)) × (links.prev ≤ most32) × (links.next ≤ most32) × IdIn kept }
 {
-    words[21] = p.word();
-    words[22] = n.word();
+    words[21] = links.prev.word();
+    words[22] = links.next.word();
     put_clock(words, kept);
 }
 
-// Into a part of the lent slice, of a row's length: an array would be copied out and in (d).
-fn close(words: &mut [u64], row: Row)
-    requires { length words.old ≡ 25 }
+fn close(words: &mut [u64; 25], row: Row)
     ensures { (words.new ≡ closed_of row) × RowIn row }
 {
     packing::put(words, 0, &packing::key_words(row.key));
     put_heard(words, row.part.heard);
-    packing::put(words, 14, &packing::verdict_words(row.part.verdict));
-    put_tail(words, row.prev, row.next, row.part.judged_ms);
+    packing::put(words, 14, &row.part.verdict.words());
+    put_tail(words, Links::from(row), row.part.judged_ms);
 }
 
-// A row's generation and links.
+// A row's generation and links. Here and below a slice of 25 words or more, as in `packing`: an array would ask callers for no more than 25 (d).
 fn links_fit(words: &[u64]) -> bool
     requires { 25 ≤ length words.now }
     ensures { result ≡ (leb (get_or words.now 9 0) most32 && (leb (get_or words.now 21 0) most32 && leb (get_or words.now 22 0) most32)) }
@@ -74,9 +72,9 @@ pub fn numbers_fit(words: &[u64]) -> bool
     requires { 25 ≤ length words.now }
     ensures { result ≡ row.numbers_fit words.now }
 {
-    packing::maybe_fits::<u64>(&words[10..])
-        && packing::maybe_fits::<u64>(&words[12..])
-        && packing::maybe_fits::<u64>(&words[23..])
+    <Option<u64>>::fit(&words[10..])
+        && <Option<u64>>::fit(&words[12..])
+        && <Option<u64>>::fit(&words[23..])
 }
 
 // Any two words are degrees, and any four a key.
@@ -85,20 +83,20 @@ pub fn row_fits(words: &[u64]) -> bool
     ensures { result ≡ row_fits words.now }
 {
     links_fit(words)
-        && packing::site_fits(&words[4..])
+        && <Option<Site>>::fit(&words[4..])
         && numbers_fit(words)
-        && packing::verdict_fits(&words[14..])
+        && <Option<Verdict>>::fit(&words[14..])
 }
 
-// No `From`: 25 words are a row, and ten of them what it heard (d).
+// No `From`: `Heard` and `Row` are other crates', so none can stand here or below (d).
 fn heard_of(words: &[u64; 25]) -> Heard
     ensures { result ≡ row.heard_of words.now }
 {
     Heard {
-        site: packing::site_of(&words[4..]),
+        site: Words::from_words(&words[4..]),
         generation: u32::from_word(words[9]),
-        even: packing::maybe_of(&words[10..]),
-        odd: packing::maybe_of(&words[12..]),
+        even: Words::from_words(&words[10..]),
+        odd: Words::from_words(&words[12..]),
     }
 }
 
@@ -109,8 +107,8 @@ fn row_of(words: &[u64; 25]) -> Row
         key: packing::key_at(words),
         part: Part {
             heard: heard_of(words),
-            verdict: packing::verdict_of(&words[14..]),
-            judged_ms: packing::maybe_of(&words[23..]),
+            verdict: Words::from_words(&words[14..]),
+            judged_ms: Words::from_words(&words[23..]),
         },
         prev: u32::from_word(words[21]),
         next: u32::from_word(words[22]),
@@ -125,8 +123,8 @@ fn junk() -> Row
         part: Part {
             heard: Heard {
                 site: Some(Site {
-                    lat: 0.0 / 0.0,
-                    lon: 0.0 / 0.0,
+                    lat: f64::NAN,
+                    lon: f64::NAN,
                     alt_m: None,
                 }),
                 generation: 0,
@@ -185,9 +183,7 @@ pub fn words_at(rows: &[u64], at: u32) -> &[u64; 25]
     requires { at < length (rows_of rows.now) }
     ensures { result.now ≡ take words_of_row (drop (words_of_row * at) rows.now) }
 {
-    let a = start_of(at);
-    let z = end_of(at);
-    rows[a..z].first_chunk().unwrap()
+    rows[start_of(at)..].first_chunk().unwrap()
 }
 
 // A link's row; the unmade one for a link that is no row's number.
@@ -200,14 +196,14 @@ pub fn get(rows: &[u64], at: u32) -> Row
     open(words_at(rows, at))
 }
 
-// A store at a link; none for a link that is no row's number. That the slice keeps its length, here and in `glances`, relates two states of it: no type holds that (d).
+// A store at a link; none for a link that is no row's number. The row's words are lent here and in `glances`: a function that
+// lends them got no proof of what the slice becomes of them (c). That the slice keeps its length, here and in `glances`, relates two states of it: no type holds that (d).
 pub fn put(rows: &mut [u64], at: u32, row: Row)
     ensures { (rows_of rows.new ≡ set (rows_of rows.old) at row) × (length rows.new ≡ length rows.old) }
 {
     if outside(rows, at) {
         return;
     }
-    let a = start_of(at);
-    let z = end_of(at);
-    close(&mut rows[a..z], row);
+    let (_, rest) = rows.split_at_mut(start_of(at));
+    close(rest.first_chunk_mut().unwrap(), row);
 }

@@ -67,9 +67,5 @@ pub fn past_by(edge_km: f64, antenna_root: f64, aircraft_m: f64) -> Option<f64>
     ensures { result ≡ past_from edge_km antenna_root aircraft_m }
 {
     let allowed = allowance_km(antenna_root, aircraft_m);
-    if edge_km > allowed {
-        Some(edge_km - allowed)
-    } else {
-        None
-    }
+    (edge_km > allowed).then_some(edge_km - allowed)
 }

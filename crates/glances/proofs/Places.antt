@@ -1,6 +1,6 @@
 -- A row by its number: where all its words fit it is what they open as, and else it is one without links, to be opened whole.
 use mathlib.Core.Path.{◌≡◌, refl, sym, ap, ap₂, ◌∙◌}
-use Prim.Native.Nat.{ℕ, ◌+◌, ◌-◌, ◌*◌, ◌<◌}
+use Prim.Native.Nat.{ℕ, ◌*◌, ◌<◌}
 use native.Mathlib.Omega.{arith}
 use mathlib.Core.Bool.{Bool, true, false, cond, ◌&&◌, ◌||◌}
 use mathlib.Core.List.{List, [], ◌∷◌, ◌++◌}
@@ -24,7 +24,7 @@ use Rattle.flat.specs.Table.{rows_of}
 use Rattle.flat.proofs.Opening.{opened_fit, opened_junk}
 use Rattle.flat.proofs.Returns.{junk_unfit}
 use Rattle.flat.proofs.Rows.{row_opens, words_are, stored}
-use Rattle.glances.specs.declared.Links.{Links}
+use Rattle.scans.specs.declared.Links.{Links}
 use Rattle.glances.specs.declared.Glance.{Glance}
 use Rattle.glances.specs.Glances.{words_at, fits_at, links_of, glance_of}
 use Rattle.packing.specs.Words.{low32, key_of, site_of, run_of, verdict_of}
@@ -74,22 +74,22 @@ module _ (ws : List ℕ) (i : ℕ) (t : Bool) (e : t ≡ fits_at ws i) where
   pub links_seen : (l : List ℕ) (r : Links) → t ≡ true → l ≡ words_at ws i → r ≡ links_of (row_of l) → r ≡ links_of (get_or (rows_of ws) i blank)
   links_seen l r f el g = g ∙ ap (λ (m : List ℕ). links_of (row_of m)) el ∙ sym (ap links_of (read f))
 
-  module _ (a z : ℕ) (f : t ≡ true) (ea : a ≡ words_of_row * i) (ez : z ≡ words_of_row * i + words_of_row) where
+  module _ (a : ℕ) (f : t ≡ true) (ea : a ≡ words_of_row * i) where
     abbrev part : List ℕ
-    part = take (z - a) (drop a ws)
+    part = take 25 (drop a ws)
 
     pub part_fits : (ys : List ℕ) → ys ≡ part → row_fits ys ≡ true
-    part_fits ys g = ap row_fits (g ∙ words_are ws i a z (fit_in f) ea ez) ∙ (told f).1
+    part_fits ys g = ap row_fits (g ∙ words_are ws i a (fit_in f) ea) ∙ (told f).1
 
     -- other words in its place
-    module _ (ys : List ℕ) (long : length ys ≡ 25) where
-      changed : (g : Row → Row) → opened_of ys ≡ g (opened_of part) → rows_of (take a ws ++ (ys ++ drop (z - a) (drop a ws))) ≡ set (rows_of ws) i (g (get_or (rows_of ws) i blank))
-      changed g h = stored ws i a z (fit_in f) ea ez ys long ∙ ap (set (rows_of ws) i) (h ∙ ap g (ap opened_of (words_are ws i a z (fit_in f) ea ez) ∙ sym (row_opens ws i (fit_in f))))
+    module _ (xs ys : List ℕ) (ex : xs ≡ part) (long : length ys ≡ 25) where
+      changed : (g : Row → Row) → opened_of ys ≡ g (opened_of xs) → rows_of (take a ws ++ (ys ++ drop 25 (drop a ws))) ≡ set (rows_of ws) i (g (get_or (rows_of ws) i blank))
+      changed g h = stored ws i a (fit_in f) ea ys long ∙ ap (set (rows_of ws) i) (h ∙ ap g (ap opened_of (ex ∙ words_are ws i a (fit_in f) ea) ∙ sym (row_opens ws i (fit_in f))))
 
-      pub links_changed : (p n : ℕ) → opened_of ys ≡ with_links (opened_of part) p n → rows_of (take a ws ++ (ys ++ drop (z - a) (drop a ws))) ≡ set (rows_of ws) i (with_links (get_or (rows_of ws) i blank) p n)
+      pub links_changed : (p n : ℕ) → opened_of ys ≡ with_links (opened_of xs) p n → rows_of (take a ws ++ (ys ++ drop 25 (drop a ws))) ≡ set (rows_of ws) i (with_links (get_or (rows_of ws) i blank) p n)
       links_changed p n = changed (λ r. with_links r p n)
 
-      pub part_changed : (p : Part) → opened_of ys ≡ with_part (opened_of part) p → rows_of (take a ws ++ (ys ++ drop (z - a) (drop a ws))) ≡ set (rows_of ws) i (with_part (get_or (rows_of ws) i blank) p)
+      pub part_changed : (p : Part) → opened_of ys ≡ with_part (opened_of xs) p → rows_of (take a ws ++ (ys ++ drop 25 (drop a ws))) ≡ set (rows_of ws) i (with_part (get_or (rows_of ws) i blank) p)
       part_changed p = changed (λ r. with_part r p)
 
 -- A LOOK AT A ROW'S WORDS

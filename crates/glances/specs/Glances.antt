@@ -5,7 +5,7 @@ use Rattle.rows.specs.declared.Row.{Row}
 use Rattle.rows.specs.Read.{fits}
 use Rattle.flat.specs.Words.{words_of_row, row_fits}
 use Rattle.flat.specs.Table.{rows_of}
-use Rattle.glances.specs.declared.Links.{Links}
+use Rattle.scans.specs.declared.Links.{Links}
 use Rattle.glances.specs.declared.Glance.{Glance}
 
 -- the words of row i, and whether there are any and all fit

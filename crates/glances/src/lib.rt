@@ -15,16 +15,10 @@ ghost use Rattle.glances.specs.Glances.{fits_at, links_of, glance_of};
 ghost use Rattle.packing.specs.Words.{key_of, site_of, verdict_of};
 
 use measures::degrees;
-use packing::Word;
+use packing::{Word, Words};
 use receiver::Part;
 use rows::Row;
-
-// A row's links, here and below as they are lent: row numbers, none the largest u32 (a).
-#[derive(Clone, Copy)]
-pub struct Links {
-    pub prev: u32,
-    pub next: u32,
-}
+pub use scans::Links;
 
 // What a step along a chain asks of a row: its links, whether its part is sound, and whether it has the key. Flat, since a step takes each of them by itself (d).
 #[derive(Clone, Copy)]
@@ -45,7 +39,7 @@ fn fits_at(rows: &[u64], at: u32) -> bool
     flat::row_fits(flat::words_at(rows, at))
 }
 
-// No `From`: 25 words are a row, and two of them its links (d).
+// No `From`: `Links` is another crate's, so none can stand here (d).
 fn links_of(words: &[u64; 25]) -> Links
     ensures { result ≡ links_of (row_of words.now) }
 {
@@ -68,7 +62,8 @@ pub fn links_at(rows: &[u64], at: u32) -> Links
     }
 }
 
-// Of most rows the first word tells. Both are slices, so that a word is known to be of 64 bits.
+// Of most rows the first word tells. Both are slices, so that a word is known to be of 64 bits. Of `key[..4] == words[..4]` it stayed open that the words are the
+// same where their bytes are (c).
 fn has_key(words: &[u64], key: &[u64]) -> bool
     requires { (4 ≤ length key.now) × (4 ≤ length words.now) }
     ensures { result ≡ same (key_of key.now) (key_of words.now) }
@@ -95,7 +90,7 @@ fn sound_at(words: &[u64; 25]) -> bool
     site_sound(words) && verdict_sound(words)
 }
 
-// The four words of a key.
+// The four words of a key: `packing::key_words` by the clause that a look asks for (d).
 pub fn words_of(key: [u8; 32]) -> [u64; 4]
     ensures { key_of result ≡ key }
 {
@@ -105,10 +100,10 @@ pub fn words_of(key: [u8; 32]) -> [u64; 4]
 fn glance_of(words: &[u64; 25], key: &[u64; 4]) -> Glance
     ensures { result ≡ glance_of (key_of key.now) (row_of words.now) }
 {
-    let links = links_of(words);
+    let Links { prev, next } = links_of(words);
     Glance {
-        prev: links.prev,
-        next: links.next,
+        prev,
+        next,
         sound: sound_at(words),
         same: has_key(words, key),
     }
@@ -139,52 +134,47 @@ pub fn look_at(rows: &[u64], at: u32, key: &[u64; 4]) -> Glance
     junk_glance(key)
 }
 
-fn store_links(words: &mut [u64], p: u32, n: u32)
-    requires { (length words.old ≡ 25) × (row_fits words.old ≡ true) }
-    ensures { (opened_of words.new ≡ with_links (opened_of words.old) p n) × (length words.new ≡ 25) }
+// The length is said, here and below, since a proof of a caller found it in no fact of the array that was lent (c).
+fn store_links(words: &mut [u64; 25], links: Links)
+    requires { row_fits words.old ≡ true }
+    ensures { (opened_of words.new ≡ with_links (opened_of words.old) links.prev links.next) × (length words.new ≡ 25) }
 {
-    words[21] = p.word();
-    words[22] = n.word();
+    words[21] = links.prev.word();
+    words[22] = links.next.word();
 }
 
-fn store_part(words: &mut [u64], part: Part)
-    requires { (length words.old ≡ 25) × (row_fits words.old ≡ true) }
+fn store_part(words: &mut [u64; 25], part: Part)
+    requires { row_fits words.old ≡ true }
     ensures { (opened_of words.new ≡ with_part (opened_of words.old) part) × (length words.new ≡ 25) }
 {
     flat::put_heard(words, part.heard);
-    packing::put(words, 14, &packing::verdict_words(part.verdict));
+    packing::put(words, 14, &part.verdict.words());
     flat::put_clock(words, part.judged_ms);
 }
 
 // A link that is none is no row: nothing is stored there, and nothing opened.
-pub fn set_links(rows: &mut [u64], at: u32, p: u32, n: u32)
-    ensures { (rows_of rows.new ≡ set (rows_of rows.old) at (with_links (get_or (rows_of rows.old) at blank) p n)) × (length rows.new ≡ length rows.old) }
+pub fn set_links(rows: &mut [u64], at: u32, links: Links)
+    ensures { (rows_of rows.new ≡ set (rows_of rows.old) at (with_links (get_or (rows_of rows.old) at blank) links.prev links.next)) × (length rows.new ≡ length rows.old) }
 {
     if flat::outside(rows, at) {
         return;
     }
     if fits_at(rows, at) {
-        let a = flat::start_of(at);
-        let z = flat::end_of(at);
-        store_links(&mut rows[a..z], p, n);
+        let (_, rest) = rows.split_at_mut(flat::start_of(at));
+        store_links(rest.first_chunk_mut().unwrap(), links);
         return;
     }
     let row = flat::get(rows, at);
-    let linked = Row {
-        prev: p,
-        next: n,
-        ..row
-    };
-    flat::put(rows, at, linked);
+    let Links { prev, next } = links;
+    flat::put(rows, at, Row { prev, next, ..row });
 }
 
 pub fn set_part(rows: &mut [u64], at: u32, part: Part)
     ensures { (rows_of rows.new ≡ parted_rows (rows_of rows.old) at part) × (length rows.new ≡ length rows.old) }
 {
     if fits_at(rows, at) {
-        let a = flat::start_of(at);
-        let z = flat::end_of(at);
-        store_part(&mut rows[a..z], part);
+        let (_, rest) = rows.split_at_mut(flat::start_of(at));
+        store_part(rest.first_chunk_mut().unwrap(), part);
         return;
     }
     let row = flat::get(rows, at);
@@ -195,12 +185,12 @@ pub fn set_next(rows: &mut [u64], at: u32, n: u32)
     ensures { (rows_of rows.new ≡ nexted (rows_of rows.old) at n) × (length rows.new ≡ length rows.old) }
 {
     let links = links_at(rows, at);
-    set_links(rows, at, links.prev, n);
+    set_links(rows, at, Links { next: n, ..links });
 }
 
 pub fn set_prev(rows: &mut [u64], at: u32, n: u32)
     ensures { (rows_of rows.new ≡ preved (rows_of rows.old) at n) × (length rows.new ≡ length rows.old) }
 {
     let links = links_at(rows, at);
-    set_links(rows, at, n, links.next);
+    set_links(rows, at, Links { prev: n, ..links });
 }

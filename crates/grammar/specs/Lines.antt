@@ -1,8 +1,7 @@
 -- What a line asks for (README, 'A list of calls'). Definitions only.
 use Rattle.std.specs.Prelude.{ℕ, ◌-◌, Bool, ◌&&◌, cond, List, [], ◌∷◌, eqb, ltb, length, get_or, replicate, Some, None, Option, Ok, Err, Result}
 use Prim.Native.String.{String}
-use Rattle.fields.specs.Text.{spell, text_end, field_at, part_of, same_bytes}
-use Rattle.fields.specs.declared.Field.{Field}
+use Rattle.fields.specs.Text.{spell, Piece, text_end, field_at, part_of, same_bytes}
 use Rattle.fields.specs.declared.Stray.{Stray}
 use Rattle.readers.specs.Reading.{Reading}
 use Rattle.readers.specs.Fields.{start_at, Read, ◌>>=◌, ◌>>◌, gives, small, wide, link, feet, key, ended, two, four, claim, part, links, clock}
@@ -177,9 +176,9 @@ abbrev pub value_of : {A : Type 0} → Result (A × Reading) Fault → Result A 
 value_of (Ok p) = Ok p.0
 value_of (Err e) = Err e
 
--- the word ends at `end`, and the first field, behind a space (32), starts at `next`
-unfoldable pub call_of : List ℕ → ℕ → ℕ → Result Said Fault
-call_of t end next = value_of (line_by (part_of t 0 end) end (start_at t next 32))
+-- the text's first field is the call's word, and the call's own fields are those behind it, each ended by a space (32)
+unfoldable pub call_of : List ℕ → Piece → Result Said Fault
+call_of t word = value_of (line_by word.bytes (length word.bytes) (start_at t word.next 32))
 
 -- a text that ends in a carriage return (13) has a stray one
 unfoldable pub return_at_end : List ℕ → Bool
@@ -189,8 +188,8 @@ abbrev pub asked : Result Said Fault → Result (Option Said) Fault
 asked (Ok s) = Ok (Some s)
 asked (Err e) = Err e
 
-abbrev pub text_by : List ℕ → Result (Option Field) Stray → Result (Option Said) Fault
-text_by t (Ok (Some f)) = asked (call_of t f.end f.next)
+abbrev pub text_by : List ℕ → Result (Option Piece) Stray → Result (Option Said) Fault
+text_by t (Ok (Some word)) = asked (call_of t word)
 text_by t (Ok None) = Ok None
 text_by t (Err e) = Err (fault.Stray e.sep)
 

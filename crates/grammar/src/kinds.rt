@@ -1,5 +1,5 @@
 // The calls by their words, and one reader for each.
-ghost use Rattle.std.specs.Prelude.{◌≡◌};
+ghost use Rattle.std.specs.Prelude.{◌≡◌, length};
 ghost use Rattle.readers.specs.Fields.{left};
 ghost use Rattle.grammar.specs.Lines.{keyed, unkeyed, bare_line, key_line, watch_line, claim_line, position_line, judging_line, turn_line, place_line, same_line, horizon_line, bucket_line, bit_line, lend_line, row_line, cell_line, ends_line, line_by};
 
@@ -204,50 +204,50 @@ fn ends_line(r: &mut Reader<'_>) -> Result<Said, Fault>
     unkeyed(r, Name::Free, Line::Change(change))
 }
 
-// The call that a word names; the word ends at `end`. A `match` on the word's bytes leaves open goals, one for each of its hundred ways out.
-#[tactic(auto, unfolding(crate::specs::Lines::line_by))]
-pub fn line_by(r: &mut Reader<'_>, word: &[u8], end: usize) -> Result<Said, Fault>
-    ensures { left result r.new ≡ line_by word.now end r.old }
+// The call that a word names. A `match` on the word's bytes leaves open goals, one for each of its hundred ways out (c).
+#[tactic(auto, using(fields::proofs::Lines::same_is), unfolding(crate::specs::Lines::line_by))]
+pub fn line_by(r: &mut Reader<'_>, word: &[u8]) -> Result<Said, Fault>
+    ensures { left result r.new ≡ line_by word.now (length word.now) r.old }
 {
-    if fields::same(word, b"watch") {
+    if word == b"watch".as_slice() {
         watch_line(r)
-    } else if fields::same(word, b"fresh") {
+    } else if word == b"fresh".as_slice() {
         bare_line(r, Line::Call(Call::Fresh))
-    } else if fields::same(word, b"drop") {
+    } else if word == b"drop".as_slice() {
         bare_line(r, Line::Call(Call::Drop))
-    } else if fields::same(word, b"check") {
+    } else if word == b"check".as_slice() {
         key_line(r, Line::Call(Call::Check))
-    } else if fields::same(word, b"takeout") {
+    } else if word == b"takeout".as_slice() {
         key_line(r, Line::Call(Call::TakeOut))
-    } else if fields::same(word, b"claim") {
+    } else if word == b"claim".as_slice() {
         claim_line(r)
-    } else if fields::same(word, b"position") {
+    } else if word == b"position".as_slice() {
         position_line(r)
-    } else if fields::same(word, b"judging") {
+    } else if word == b"judging".as_slice() {
         judging_line(r)
-    } else if fields::same(word, b"turn") {
+    } else if word == b"turn".as_slice() {
         turn_line(r)
-    } else if fields::same(word, b"digest") {
+    } else if word == b"digest".as_slice() {
         bare_line(r, Line::Digest)
-    } else if fields::same(word, b"place") {
+    } else if word == b"place".as_slice() {
         place_line(r)
-    } else if fields::same(word, b"same") {
+    } else if word == b"same".as_slice() {
         same_line(r)
-    } else if fields::same(word, b"horizon") {
+    } else if word == b"horizon".as_slice() {
         horizon_line(r)
-    } else if fields::same(word, b"bucket") {
+    } else if word == b"bucket".as_slice() {
         bucket_line(r)
-    } else if fields::same(word, b"bit") {
+    } else if word == b"bit".as_slice() {
         bit_line(r)
-    } else if fields::same(word, b"lend") {
+    } else if word == b"lend".as_slice() {
         lend_line(r)
-    } else if fields::same(word, b"row") {
+    } else if word == b"row".as_slice() {
         row_line(r)
-    } else if fields::same(word, b"cell") {
+    } else if word == b"cell".as_slice() {
         cell_line(r)
-    } else if fields::same(word, b"ends") {
+    } else if word == b"ends".as_slice() {
         ends_line(r)
     } else {
-        Err(Fault::Unknown { end })
+        Err(Fault::Unknown { end: word.len() })
     }
 }

@@ -4,9 +4,8 @@
 mod kinds;
 
 ghost use Rattle.std.specs.Prelude.{◌≡◌};
-ghost use Rattle.grammar.specs.Lines.{call_of, return_at_end, text_of, line_of};
+ghost use Rattle.grammar.specs.Lines.{return_at_end, text_of, line_of};
 
-use fields::Field;
 use heard::Position;
 use readers::{Fault, Reader};
 use receiver::Part;
@@ -41,6 +40,7 @@ pub enum Change {
         at: u32,
         word: u32,
     },
+    // Not `scans::Ends`: a line's three numbers, in its order; this crate knows no chains (d).
     Ends {
         first: u32,
         last: u32,
@@ -62,6 +62,7 @@ pub enum Line {
         room: u32,
     },
     Digest,
+    // Four numbers here and below, as `sites::place` takes them and C has them (a).
     Place {
         lat1: f64,
         lon1: f64,
@@ -85,20 +86,11 @@ pub enum Line {
     Change(Change),
 }
 
-// A line, and the key that it names: zeros where it names none.
+// A line, and the key that it names: zeros where it names none, which nothing reads (d).
 #[derive(Clone, Copy)]
 pub struct Said {
     pub line: Line,
     pub key: [u8; 32],
-}
-
-// The call whose word is this field.
-#[tactic(auto, unfolding(crate::specs::Lines::call_of))]
-fn called(t: &[u8], f: Field) -> Result<Said, Fault>
-    ensures { result ≡ call_of t.now f.end f.next }
-{
-    let mut r = Reader::new(t, f.next, b' ');
-    kinds::line_by(&mut r, fields::part(t, 0, f.end), f.end)
 }
 
 #[tactic(auto, unfolding(crate::specs::Lines::return_at_end))]
@@ -108,18 +100,19 @@ fn ends_in_return(t: &[u8]) -> bool
     t.last() == Some(&b'\r')
 }
 
-// A line's text, its comment taken off.
-#[tactic(auto, unfolding(crate::specs::Lines::text_of))]
+// A line's text, its comment taken off: its first field is the call's word.
+#[tactic(auto, unfolding(crate::specs::Lines::text_of, crate::specs::Lines::call_of))]
 fn text(t: &[u8]) -> Result<Option<Said>, Fault>
     ensures { result ≡ text_of t.now }
 {
     if ends_in_return(t) {
         return Err(Fault::StrayReturn);
     }
-    match fields::next_field(t, 0, b' ')? {
-        Some(f) => Ok(Some(called(t, f)?)),
-        None => Ok(None),
-    }
+    let Some(word) = fields::next_field(t, 0, b' ')? else {
+        return Ok(None);
+    };
+    let mut r = Reader::new(t, word.next, b' ');
+    Ok(Some(kinds::line_by(&mut r, word.bytes)?))
 }
 
 // What a line of these bytes asks for, if it asks for something.

@@ -1,5 +1,5 @@
 -- What the code's answers say: for each case 01's number, or the row's part and cells and what is said. Definitions only.
-use Rattle.std.specs.Prelude.{ℕ, ◌+◌, ◌<◌, ◌≤◌, cond, List, replicate, slice_index, slice_set, Result, Ok, Err}
+use Rattle.std.specs.Prelude.{ℕ, ◌+◌, cond, List, replicate, slice_index, slice_set, Result, Ok, Err}
 use Rattle.std.proofs.lemmas.List.Edits.{sets}
 use Rattle.table.specs.Machine.{Outcome, refuse, accept}
 use Rattle.table.specs.Watch.{Body}
@@ -8,7 +8,7 @@ use Rattle.table.specs.declared.Refusal.{Refusal}
 use Rattle.cells.specs.Cells.{empty_word, added_word}
 use Rattle.heard.specs.declared.Heard.{Heard}
 use Rattle.heard.specs.declared.Claiming.{Claiming}
-use Rattle.heard.specs.declared.Counting.{Counting}
+use Rattle.heard.specs.declared.counting.Counting.{Counting}
 use Rattle.heard.specs.Heard.{half, empty_cells, Moved, moved, stayed}
 
 -- `set_site`, of a row whose cells are l
@@ -27,11 +27,3 @@ counting_is c l = slice_set (half_before c l) (c.start + c.place) (added_word (s
 abbrev pub hearing_is : Result Counting Refusal → List ℕ → Outcome (Body Heard) (Unit {0})
 hearing_is (Err r) l = refuse (number_of r)
 hearing_is (Ok c) l = accept (record { part = c.heard; cells = counting_is c l }) tt
-
--- where a position is counted lies within its row's cells
-abbrev pub CountingFits : Counting → Type 0
-CountingFits c = (c.start ≤ half) × (c.place < half)
-
-abbrev pub HearingFits : Result Counting Refusal → Type 0
-HearingFits (Err r) = Unit {0}
-HearingFits (Ok c) = CountingFits c

@@ -2,14 +2,16 @@
 // position, decided by value; the cells are a slice that is lent.
 #![tactic(auto)]
 
-ghost use Rattle.std.specs.Prelude.{◌≡◌, ℕ, ◌+◌, ◌<◌, ◌≤◌, true, not, List, length, replicate, Ok};
-ghost use Rattle.std.proofs.lemmas.List.Edits.{sets};
+ghost use Rattle.std.specs.Prelude.{◌≡◌, ℕ, ◌≤◌, true, not, List, length, replicate, Ok};
 ghost use Rattle.cells.specs.Cells.{empty_word};
 ghost use Rattle.measures.specs.Degrees.{in_degrees};
 ghost use Rattle.sites.specs.Sites.{held};
 ghost use Rattle.heard.specs.Heard as heard;
-ghost use Rattle.heard.specs.Answers.{claiming_is, half_before, counting_is, hearing_is, CountingFits, HearingFits};
+ghost use Rattle.heard.specs.Answers.{claiming_is, half_before, counting_is, hearing_is};
 
+mod counting;
+
+pub use counting::Counting;
 use sites::Site;
 use table::Refusal;
 
@@ -40,17 +42,6 @@ pub struct Claiming {
     pub moved: bool,
 }
 
-// Where a position is counted: its half starts at `start`, and is emptied first if the id is newer or the first.
-#[derive(Clone, Copy)]
-pub struct Counting {
-    pub heard: Heard,
-    pub newer: bool,
-    pub start: u16,
-    pub place: u16,
-    pub low: u8,
-    pub bit: u16,
-}
-
 // A fresh row's.
 pub fn unheard() -> Heard
     ensures { result ≡ heard.unheard }
@@ -67,10 +58,7 @@ pub fn unheard() -> Heard
 pub fn fits(site: Option<Site>) -> bool
     ensures { result ≡ heard.site_fits site }
 {
-    let Some(s) = site else {
-        return true;
-    };
-    sites::in_degrees(s)
+    site.is_none_or(sites::in_degrees)
 }
 
 // The same place: only a given altitude changes.
@@ -177,32 +165,27 @@ fn with_id(even: bool, id: u64, h: Heard) -> Heard
 fn not_older(held: Option<u64>, id: u64) -> bool
     ensures { result ≡ heard.not_older held id }
 {
-    match held {
-        Some(n) => n <= id,
-        None => true,
-    }
+    held.is_none_or(|n| n <= id)
 }
 
 fn is_newer(held: Option<u64>, id: u64) -> bool
     ensures { result ≡ not (heard.holds_id held id) }
 {
-    match held {
-        Some(n) => n != id,
-        None => true,
-    }
+    held != Some(id)
 }
 
 // Where a half of a row's cells starts: one of two places, which no conversion of a truth says plainer (d).
 fn start_of(even: bool) -> u16
-    ensures { (result ≡ heard.start_of even) × (result ≤ heard.half) }
+    ensures { (result ≡ heard.start_of even) × (result ≤ 1672) }
 {
     if even { 0 } else { 1672 }
 }
 
 // A position heard around the site: too late for its half, or counted there.
+#[tactic(auto, using(crate::proofs::SiteLaws::counted_is))]
 fn heard_at(h: Heard, s: Site, p: Position) -> Result<Counting, Refusal>
     requires { (held s ≡ true) × (in_degrees p.lat p.lon ≡ true) }
-    ensures { ((l : List ℕ) → hearing_is result l ≡ heard.on_site h l s p (heard.epoch_of p.at_ms)) × HearingFits result }
+    ensures { (l : List ℕ) → hearing_is result l ≡ heard.on_site h l s p (heard.epoch_of p.at_ms) }
 {
     let id = p.at_ms / 43200000;
     let even = is_even(id);
@@ -223,7 +206,7 @@ fn heard_at(h: Heard, s: Site, p: Position) -> Result<Counting, Refusal>
 // A position that the receiver heard.
 pub fn hear(h: Heard, p: Position) -> Result<Counting, Refusal>
     requires { heard.site_fits h.site ≡ true }
-    ensures { ((l : List ℕ) → hearing_is result l ≡ heard.positioned h l p) × HearingFits result }
+    ensures { (l : List ℕ) → hearing_is result l ≡ heard.positioned h l p }
 {
     if measures::degrees::in_degrees(p.lat, p.lon) {
         let s = h.site.ok_or(Refusal::NoSite)?;
@@ -232,26 +215,28 @@ pub fn hear(h: Heard, p: Position) -> Result<Counting, Refusal>
     Err(Refusal::Degrees)
 }
 
-// n cells from `from` become empty.
-pub fn empty(cells: &mut [u32], from: usize, n: usize)
-    requires { from + n ≤ length cells.old }
-    ensures { cells.new ≡ sets cells.old from (replicate n empty_word) }
+// All cells become empty.
+pub fn empty(cells: &mut [u32])
+    ensures { cells.new ≡ replicate (length cells.old) empty_word }
 {
-    cells[from..from + n].fill(cells::empty_word());
+    cells.fill(cells::empty_word());
 }
 
+#[tactic(auto, using(crate::proofs::SiteLaws::half_emptied, crate::proofs::SiteLaws::half_kept))]
 fn empty_half(cells: &mut [u32], c: Counting)
-    requires { (length cells.old ≡ heard.width) × CountingFits c }
+    requires { length cells.old ≡ heard.width }
     ensures { cells.new ≡ half_before c cells.old }
 {
     if c.newer {
-        empty(cells, c.start as usize, 1672);
+        let a = c.start as usize;
+        empty(&mut cells[a..a + 1672]);
     }
 }
 
 // One position more in a row's cells.
+#[tactic(auto, using(crate::proofs::SiteLaws::place_room, crate::proofs::SiteLaws::counting_is_lem))]
 pub fn count(cells: &mut [u32], c: Counting)
-    requires { (length cells.old ≡ heard.width) × CountingFits c }
+    requires { length cells.old ≡ heard.width }
     ensures { cells.new ≡ counting_is c cells.old }
 {
     empty_half(cells, c);

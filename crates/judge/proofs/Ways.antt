@@ -7,7 +7,6 @@ use Prim.Native.Nat.{ℕ, ◌≤◌, ◌<◌}
 use borrow.Author.Tests.{lt-ltb, le-ltb}
 use lib.Dec.{ltb}
 use lib.Ieee.{Float}
-use Rattle.measures.specs.Steps.{off_of}
 use Rattle.view.specs.View.{kept, Unheard}
 use Rattle.view.specs.declared.Far.{Far}
 use Rattle.sites.specs.declared.Site.{Site}
@@ -20,15 +19,6 @@ use Rattle.near_field.specs.declared.Judgment.TheVariants.{Unjudged, Wrong}
 use Rattle.near_field.specs.declared.Evidence.TheVariants.{Horizon, NothingNear}
 use Rattle.nearest.specs.Nothing.{places, nothing_near}
 use Rattle.judge.specs.Judging.{if_outside, horizon_off, after_horizon, by_horizon, judge_cells, judge_row, judge_of}
-
--- ---- past the horizon
-pub off_empty : (e : Option ℕ) (x : Float) (km : ℕ) → e ≡ Some km → km ≡ horizon_off e x
-unfolding horizon_off
-off_empty e x km h = rw h
-
-pub off_excess : (e : Option ℕ) (x : Float) (r : ℕ) → e ≡ None → r ≡ off_of x → r ≡ horizon_off e x
-unfolding horizon_off
-off_excess e x r h o = rw h o
 
 -- ---- not past it
 module _ (e : Option ℕ) (grid : List ℕ) (far : Far) (out : Bool) where

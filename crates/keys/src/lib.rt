@@ -32,7 +32,7 @@ fn low(c: u8) -> u8
     (digit(c) % 16) as u8
 }
 
-// Digit k of a key's 64. The slice has 64 digits or fewer, here and below: no array holds them (d).
+// Digit k of a key's 64. At most 64 digits, here and below: a struct with the bound would be made for three private helpers (d).
 #[tactic(auto, using(crate::proofs::Keys::hex_lead, crate::proofs::Keys::hex_digit))]
 fn hex_at(s: &[u8], k: usize) -> u8
     requires { (length s.now ≤ 64) × (k < 64) }

@@ -5,7 +5,8 @@ use lib.ListN.{length-map}
 use lib.Seq.{drop-length}
 use Rattle.rows.specs.declared.Row.{Row}
 use Rattle.rows.specs.Links.{blank}
-use Rattle.rows.specs.Read.{row_is, ends_is, watch_is}
+use Rattle.rows.specs.Read.{row_is, watch_is}
+use Rattle.scans.specs.Ends.{ends_is}
 use Rattle.flat.specs.Table.{rows_of}
 use Rattle.flat.proofs.Rows.{wide_is, count_whole}
 use Rattle.lending.specs.Digests.{mixed, mixed_all, row_words, rows_words, ends_words, first_hash, digest_of}
@@ -46,16 +47,16 @@ pub rows_end : (h g n i : ℕ) (rs : List Row) → n ≡ length rs → i ≤ n �
 unfolding rows_words
 rows_end h g n i rs e f k l = ends h g (rows_words (map row_is rs)) (words_from rs i) (ap (λ (ys : List Row). rows_words (map row_is ys)) (none_left n i rs e f k)) l
 
--- CELLS
-abbrev pub CellsLeft : ℕ → List ℕ → ℕ → ℕ → Type 0
-CellsLeft h ys g i = Left h ys g (drop i ys)
+-- WORDS, and so cells
+abbrev pub WordsLeft : ℕ → List ℕ → ℕ → ℕ → Type 0
+WordsLeft h ys g i = Left h ys g (drop i ys)
 
-pub cells_go : (h g r w i : ℕ) (ys : List ℕ) → i < length ys → w ≡ get_or ys i 0 → r ≡ mixed g w → CellsLeft h ys g i → CellsLeft h ys r (i + 1)
+pub words_go : (h g r w i : ℕ) (ys : List ℕ) → i < length ys → w ≡ get_or ys i 0 → r ≡ mixed g w → WordsLeft h ys g i → WordsLeft h ys r (i + 1)
 unfolding mixed_all
-cells_go h g r w i ys f k m l = goes h g r ys (drop i ys) (get_or ys i 0 ∷ []) (drop (i + 1) ys) (next_left 0 i ys f) (m ∙ ap (mixed g) k) l
+words_go h g r w i ys f k m l = goes h g r ys (drop i ys) (get_or ys i 0 ∷ []) (drop (i + 1) ys) (next_left 0 i ys f) (m ∙ ap (mixed g) k) l
 
-pub cells_end : (h g i : ℕ) (ys : List ℕ) → i ≤ length ys → length ys ≤ i → CellsLeft h ys g i → g ≡ mixed_all h ys
-cells_end h g i ys f k l = ends h g ys (drop i ys) (none_left (length ys) i ys refl f k) l
+pub words_end : (h g i : ℕ) (ys : List ℕ) → i ≤ length ys → length ys ≤ i → WordsLeft h ys g i → g ≡ mixed_all h ys
+words_end h g i ys f k l = ends h g ys (drop i ys) (none_left (length ys) i ys refl f k) l
 
 -- ---- the watch
 pub all_mixed : (rs : List Row) (ys ws : List ℕ) (s n k a b c r : ℕ) → n ≡ length rs → s ≡ first_hash → k ≡ n → a ≡ mixed s k → b ≡ mixed_all a (ends_words (ends_is ws)) → c ≡ mixed_all b (rows_words (map row_is rs)) → r ≡ mixed_all c ys

@@ -1,7 +1,5 @@
 -- The lines that write a watch: what lies behind its rows and cells stays, and a watch of a new size stays within what is lent.
-use Rattle.std.proofs.Common.{◌≡◌, ℕ, zero, suc, ◌+◌, ◌*◌, ◌<◌, ◌≤◌, Bool, true, false, cond, leb, List, [], ◌∷◌, ◌++◌, length, drop, set, replicate, sym, refl, ap, ◌∙◌, zero-add, add-one, arith, leb-true, Result, Ok, Err}
-use lib.ListN.{length-replicate}
-use lib.Seq.{sets, sets-eq}
+use Rattle.std.proofs.Common.{◌≡◌, ℕ, zero, suc, ◌+◌, ◌<◌, ◌≤◌, Bool, true, false, cond, leb, List, [], ◌∷◌, ◌++◌, length, take, drop, ◌-◌, length-take, length-drop, set, replicate, sym, refl, ap, ◌∙◌, add-one, arith, leb-true, Result, Ok, Err}
 use Rattle.table.specs.Machine as M
 use Rattle.cells.specs.Cells.{empty_word}
 use Rattle.rows.specs.declared.Row.{Row}
@@ -9,7 +7,7 @@ use Rattle.rows.specs.Links.{blank}
 use Rattle.lending.specs.declared.Size.{Size}
 use Rattle.grammar.specs.declared.Change.{Change}
 use Rattle.grammar.specs.declared.Change.TheVariants as change
-use Rattle.lending.specs.Lendings.{Within, Room, RowsBecome, no_ends, lendable, Lent, RowSet, CellSet, AppliedBy, Applied}
+use Rattle.lending.specs.Lendings.{Within, Room, RowsBecome, no_ends, lendable, Lent, Lends, RowSet, CellSet, AppliedBy, Applied}
 use Rattle.receiver.specs.declared.Part.{Part}
 use Rattle.readers.specs.declared.Fault.{Fault}
 use Rattle.readers.specs.declared.Fault.TheVariants as fault
@@ -27,10 +25,11 @@ pub unmade_go : (n i : ℕ) (xs ys zs : List Row) (x : Row) → n ≡ length xs 
 unmade_go n i xs ys zs x e f g k h = rw (add-one i) (k ∙ ap (set ys i) g ∙ ap (λ (l : List Row). set l i blank) h ∙ one_more_lem i xs (omega arith))
 
 -- EMPTY CELLS
-pub emptied_first : (ys zs : List ℕ) (n : ℕ) → n ≤ length ys → zs ≡ sets ys 0 (replicate n empty_word) → zs ≡ replicate n empty_word ++ drop n ys
+pub emptied_first : (ys zs : List ℕ) (n : ℕ) → n ≤ length ys → zs ≡ replicate (length (take (n - 0) (drop 0 ys))) empty_word → take 0 ys ++ (zs ++ drop (n - 0) (drop 0 ys)) ≡ replicate n empty_word ++ drop n ys
 emptied_first ys zs n h e =
-    e ∙ sets-eq (replicate n empty_word) ys 0 (omega (arith, length-replicate n empty_word))
-    ∙ ap (λ (k : ℕ). replicate n empty_word ++ drop k ys) (zero-add (length (replicate n empty_word)) ∙ length-replicate n empty_word)
+    let z : n - 0 ≡ n = omega arith in
+    let k : length (take (n - 0) (drop 0 ys)) ≡ n = simp (length-take, length-drop) (omega arith) in
+    rw (e, k, z)
 
 -- LEND
 module _ (c n : ℕ) where
@@ -43,28 +42,18 @@ module _ (c n : ℕ) where
     by false t e f k = cc
 
   module _ (o : Result Size Fault) (e : o ≡ lendable c n) (z : Size) (f : o ≡ Ok z) where
-    few : (z.rows ≤ 64) × (z.cells ≤ 214016)
-    few = lent_size_few z (sym f ∙ e)
+    -- the watch that is lent lies within what is lent
+    pub lendable_within : (xs ys xs' ys' : List ℕ) → Room xs ys → length xs' ≡ length xs → length ys' ≡ length ys → Within z xs' ys'
+    lendable_within xs ys xs' ys' room lx ly =
+        let k = lent_size_few z (sym f ∙ e) in (omega (arith, k.0, room.0), omega (arith, k.1, room.1))
 
-    pub rows_fit : (xs : List ℕ) → 1600 ≤ length xs → 25 * z.rows ≤ length xs
-    rows_fit xs h = let k = few.0 in omega arith
+    pub lends_is : (y : Size) (xs ys ws xs' ys' ws' : List ℕ) → RowsBecome z.rows (replicate z.rows blank) xs xs' → ys' ≡ replicate z.cells empty_word ++ drop z.cells ys → ws' ≡ no_ends → Lends c n y xs ys ws z xs' ys' ws' (Ok tt)
+    unfolding Lends Lent
+    lends_is y xs ys ws xs' ys' ws' h i j = let k : ◌≡◌ {A = Result Size Fault} (lendable c n) (Ok z) = sym e ∙ f in rw k ((refl, (h, i, j)), refl, refl)
 
-    pub cells_fit : (ys : List ℕ) → 214016 ≤ length ys → z.cells ≤ length ys
-    cells_fit ys h = let k = few.1 in omega arith
-
-    pub lent_is : (xs ys ws xs' ys' ws' : List ℕ) → RowsBecome z.rows (replicate z.rows blank) xs xs' → ys' ≡ replicate z.cells empty_word ++ drop z.cells ys → ws' ≡ no_ends → Lent c n xs ys ws xs' ys' ws' (Ok z)
-    unfolding Lent
-    lent_is xs ys ws xs' ys' ws' h i j = (sym f ∙ e, (h, i, j))
-
-  pub lent_not : (o : Result Size Fault) (f : Fault) (xs ys ws : List ℕ) → o ≡ lendable c n → o ≡ Err f → Lent c n xs ys ws xs ys ws (Err f)
-  unfolding Lent
-  lent_not o f xs ys ws e g = (sym g ∙ e, (refl, refl, refl))
-
--- the watch that is lent lies within what is lent
-pub lent_within : (c n : ℕ) (o : Result Size Fault) (z : Size) (xs ys ws xs' ys' ws' : List ℕ) → Lent c n xs ys ws xs' ys' ws' o → o ≡ Ok z → Room xs ys → length xs' ≡ length xs → length ys' ≡ length ys → Within z xs' ys'
-unfolding Lent
-lent_within c n o z xs ys ws xs' ys' ws' h f room lx ly =
-    let k = lent_size_few c n z (sym f ∙ h.0) in (omega (arith, k.0, room.0), omega (arith, k.1, room.1))
+  pub lends_not : (o : Result Size Fault) (f : Fault) (z : Size) (xs ys ws : List ℕ) → o ≡ lendable c n → o ≡ Err f → Lends c n z xs ys ws z xs ys ws (Err f)
+  unfolding Lends Lent
+  lends_not o f z xs ys ws e g = let k : ◌≡◌ {A = Result Size Fault} (lendable c n) (Err f) = sym e ∙ g in rw k ((refl, (refl, refl, refl)), refl, refl)
 
 -- ONE OF THE FOUR LINES
 module _ (m : Change) (key : M.Key) (z : Size) (xs ys ws xs' ys' ws' : List ℕ) where
@@ -72,13 +61,8 @@ module _ (m : Change) (key : M.Key) (z : Size) (xs ys ws xs' ys' ws' : List ℕ)
   unfolding Applied
   applied_is a z' r e h = rw e h
 
-  pub applied_lent : (c n : ℕ) (o : Result Size Fault) (y : Size) → m ≡ change.Lend c n → Lent c n xs ys ws xs' ys' ws' o → o ≡ Ok y → Applied m key z xs ys ws y xs' ys' ws' (Ok tt)
-  unfolding Lent
-  applied_lent c n o y e h f = let k : ◌≡◌ {A = Result Size Fault} (lendable c n) (Ok y) = sym h.0 ∙ f in applied_is (change.Lend c n) y (Ok tt) e (rw k ((refl, rw f at h.1), refl, refl))
-
-  pub applied_not : (c n : ℕ) (o : Result Size Fault) (f : Fault) → m ≡ change.Lend c n → Lent c n xs ys ws xs' ys' ws' o → o ≡ Err f → Applied m key z xs ys ws z xs' ys' ws' (Err f)
-  unfolding Lent
-  applied_not c n o f e h g = let k : ◌≡◌ {A = Result Size Fault} (lendable c n) (Err f) = sym h.0 ∙ g in applied_is (change.Lend c n) z (Err f) e (rw k ((refl, rw g at h.1), refl, refl))
+  pub applied_lend : (c n : ℕ) (z' : Size) (r : Result (Unit {0}) Fault) → m ≡ change.Lend c n → Lends c n z xs ys ws z' xs' ys' ws' r → Applied m key z xs ys ws z' xs' ys' ws' r
+  applied_lend c n z' r e h = applied_is (change.Lend c n) z' r e h
 
 pub applied_row : (m : Change) (z : Size) (xs ys ws xs' key : List ℕ) (i a b : ℕ) (p : Part) (x : Row) (r : Result (Unit {0}) Fault) → m ≡ change.Row i p a b → x ≡ record { key = key; part = p; prev = a; next = b } → RowSet z i x xs xs' r → Applied m key z xs ys ws z xs' ys ws r
 applied_row m z xs ys ws xs' key i a b p x r e f h = applied_is m key z xs ys ws xs' ys ws (change.Row i p a b) z r e (rw f at h, refl, refl, refl)

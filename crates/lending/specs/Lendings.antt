@@ -68,7 +68,7 @@ cells_by (Err f) i w ys = ys
 unfoldable pub CellSet : Size → ℕ → ℕ → List ℕ → List ℕ → Result (Unit {0}) Fault → Type 0
 CellSet z i w ys ys' r = (r ≡ cell_there z i) × (ys' ≡ cells_by r i w ys)
 
--- one of the four lines, and the key that it names; an error leaves the watch and its size as they were
+-- an error leaves the watch and its size as they were
 abbrev pub lent_size : Result Size Fault → Size → Size
 lent_size (Ok y) z = y
 lent_size (Err f) z = z
@@ -77,8 +77,12 @@ abbrev pub done_by : Result Size Fault → Result (Unit {0}) Fault
 done_by (Ok y) = Ok tt
 done_by (Err f) = Err f
 
+unfoldable pub Lends : ℕ → ℕ → Size → List ℕ → List ℕ → List ℕ → Size → List ℕ → List ℕ → List ℕ → Result (Unit {0}) Fault → Type 0
+Lends c n z xs ys ws z' xs' ys' ws' r = Lent c n xs ys ws xs' ys' ws' (lendable c n) × (z' ≡ lent_size (lendable c n) z) × (r ≡ done_by (lendable c n))
+
+-- one of the four lines, and the key that it names
 abbrev pub AppliedBy : Change → M.Key → Size → List ℕ → List ℕ → List ℕ → Size → List ℕ → List ℕ → List ℕ → Result (Unit {0}) Fault → Type 0
-AppliedBy (change.Lend c n) k z xs ys ws z' xs' ys' ws' r = Lent c n xs ys ws xs' ys' ws' (lendable c n) × (z' ≡ lent_size (lendable c n) z) × (r ≡ done_by (lendable c n))
+AppliedBy (change.Lend c n) k z xs ys ws z' xs' ys' ws' r = Lends c n z xs ys ws z' xs' ys' ws' r
 AppliedBy (change.Row i p a b) k z xs ys ws z' xs' ys' ws' r = RowSet z i (record { key = k; part = p; prev = a; next = b }) xs xs' r × (ys' ≡ ys) × (ws' ≡ ws) × (z' ≡ z)
 AppliedBy (change.Cell i w) k z xs ys ws z' xs' ys' ws' r = (xs' ≡ xs) × CellSet z i w ys ys' r × (ws' ≡ ws) × (z' ≡ z)
 AppliedBy (change.Ends a b c) k z xs ys ws z' xs' ys' ws' r = (xs' ≡ xs) × (ys' ≡ ys) × (ws' ≡ a ∷ b ∷ c ∷ []) × (z' ≡ z) × (r ≡ Ok tt)

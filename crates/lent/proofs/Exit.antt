@@ -71,6 +71,10 @@ rows_sound : (w : Watch Part) → question2 form w ≡ true → all_sound form.s
 unfolding question2
 rows_sound w q = and_2 (chains_match form.unmade w (chain form.unmade w.rows (length w.rows) w.ends.head) (chain form.unmade w.rows (length w.rows) w.ends.free)) (all_sound form.sound w.rows) q
 
+-- What a call comes to that leaves these rows
+abbrev pub Told : {X : Type 0} → (List X → List Row) → (M.Answer Out → List X → List X → Type 0) → List X → List ℕ → List ℕ → Answer → Step (Watch Part) Out → List X → Type 0
+Told rows_in left before ys es r s after = (outcome r (rows_in after) ys es ≡ s) × left (answer_is r) before after
+
 -- WHAT IS LENT, AT EXIT of a call whose answer is r: a refusal changes nothing of it (`u`), and what an accepted call leaves its equation says
 module _ {X : Type 0} {rows_in : List X → List Row} {left : M.Answer Out → List X → List X → Type 0} (laws : LeftLaws rows_in left) (before after : List X) (ys es : List ℕ) where
   said_leaves : (p : Option M.Key) (out : Out) (s : Step (Watch Part) Out) → ◌≡◌ {A = Step (Watch Part) Out} (record { next = watch_is (rows_in after) ys es; answer = said p out }) s → Keeps s → left (said p out) before after

@@ -12,7 +12,7 @@ use Rattle.cells.specs.Cells.{empty_word}
 use Rattle.heard.specs.Heard.{width}
 use Rattle.receiver.specs.Calls.{fresh_call}
 use Rattle.rows.specs.declared.Row.{Row}
-use Rattle.rows.specs.Read.{ends_of, ends_is, watch_is}
+use Rattle.rows.specs.Read.{watch_is}
 use Rattle.rows.specs.Links.{fresh_from}
 use Rattle.rows.specs.Search.{sizes_of}
 use Rattle.moves.specs.declared.Word.TheVariants as Wd
@@ -21,7 +21,7 @@ use Rattle.std.specs.Prelude.{Ok, Err}
 use Rattle.table.specs.declared.Refusal.TheVariants as R
 use Rattle.moves.proofs.Making.{fresh_no, fresh_yes}
 use Rattle.scans.specs.declared.Ends.{Ends}
-use Rattle.scans.specs.Ends.{fresh_ends}
+use Rattle.scans.specs.Ends.{ends_of, ends_is, fresh_ends}
 
 module _ (xs : List Row) (n : ℕ) (ys ws : List ℕ) (t : Bool) (long : n ≡ length xs) (test : t ≡ sizes_of n (length ys)) where
   sizes : t ≡ sizes_of (length xs) (length ys)
@@ -38,6 +38,6 @@ module _ (xs : List Row) (n : ℕ) (ys ws : List ℕ) (t : Bool) (long : n ≡ l
   fresh_not r h q = fresh_no xs ys ws t r sizes h q
 
   pub fresh_made :
-      (zs : List Row) (cs vs : List ℕ) (d : Ends) (r : Answer) → t ≡ true → zs ≡ fresh_from n 0 (length xs) → cs ≡ replicate (length ys) empty_word → d ≡ fresh_ends
+      (zs : List Row) (cs vs : List ℕ) (d : Ends) (r : Answer) → t ≡ true → zs ≡ fresh_from (length xs) 0 (length xs) → cs ≡ replicate (length ys) empty_word → d ≡ fresh_ends
       → ends_is vs ≡ ends_of d → r ≡ Ok Wd.Done → outcome r zs cs vs ≡ fresh_call (watch_is xs ys ws)
-  fresh_made zs cs vs d r h z c q k v = fresh_yes xs ys ws t zs cs vs d r sizes h (z ∙ ap (λ (j : ℕ). fresh_from j 0 (length xs)) long) c q k v
+  fresh_made zs cs vs d r h z c q k v = fresh_yes xs ys ws t zs cs vs d r sizes h z c q k v

@@ -1,3 +1,2 @@
 -- Laws that the proofs of more than one function, or of other crates, cite.
 pub mod Waiting
-pub mod Words

@@ -1,6 +1,6 @@
 -- The ways out of the functions that take a line or read on. Each law takes what the callees answered and gives the definition's value.
-use Prim.Native.Nat.{ℕ, ◌≤◌, ◌+◌, ◌-◌}
-use mathlib.Core.Path.{◌≡◌, ap, ◌∙◌}
+use Prim.Native.Nat.{ℕ, ◌≤◌, ◌<◌, ◌+◌, ◌-◌}
+use mathlib.Core.Path.{◌≡◌, refl, ap, ◌∙◌}
 use mathlib.Core.Bool.{true, false}
 use mathlib.Core.List.{List, ◌++◌}
 use native.Mathlib.Omega.{arith}
@@ -11,11 +11,11 @@ use borrow.Rule.Slice.PartMut.{put_mid, post_of}
 use Rattle.std.proofs.Common.{le_refl}
 use Rattle.std.proofs.lemmas.List.{drop-take, drop_all}
 use Rattle.std.proofs.lemmas.Slice.{take-put_mid_below}
-use Rattle.std.specs.declared.option.Option.{Option}
+use Rattle.std.specs.Prelude.{Some, None, Option}
 use Rattle.std.specs.Io.KnownBytes.{Consumes}
-use Rattle.fields.specs.Text.{first_of, moved_to}
-use Rattle.fields.proofs.Lines.{find_le, moved_length}
-use Rattle.lines.specs.Lines.{waiting, line_of, kept_of, kept_count, taken_by, taken_of, ReadOn}
+use Rattle.fields.specs.Text.{first_of, first_in, moved_to}
+use Rattle.fields.proofs.Lines.{find_le, first_some, first_none, moved_length}
+use Rattle.lines.specs.Lines.{Within, waiting, line_of, kept_of, kept_count, taken_by, taken_of, ReadOn}
 use Rattle.lines.specs.declared.Input.{Input}
 use Rattle.lines.specs.declared.Step.{Step}
 use Rattle.lines.specs.declared.Line.{Line}
@@ -26,18 +26,21 @@ module _ (s : Input) (buf : List ℕ) where
   pub end_le : first_of 10 (waiting s buf) ≤ s.have - s.at
   end_le = omega (arith, find_le 10 (waiting s buf), length-take (s.have - s.at) (drop s.at buf))
 
-  pub taken_none : {n : ℕ} → n ≡ first_of 10 (waiting s buf) → n ≡ s.have - s.at → record { input = s; line = Nothing } ≡ taken_of s buf
+  pub taken_none : Within s buf → None ≡ first_in 10 (waiting s buf) → record { input = s; line = Nothing } ≡ taken_of s buf
   unfolding taken_of
-  taken_none {n} e h = none ∙ ap (taken_by s) e where
-    none : record { input = s; line = Nothing } ≡ taken_by s n
-    none = rw (eq-eqb n (s.have - s.at) h)
+  taken_none w e = rw (eq-eqb (first_of 10 (waiting s buf)) (s.have - s.at) all) refl where
+    all : first_of 10 (waiting s buf) ≡ s.have - s.at
+    all = omega (arith, first_none 10 (waiting s buf) e, end_le, w.0, w.1, length-take (s.have - s.at) (drop s.at buf), length-drop s.at buf)
 
-  pub taken_line : {n : ℕ} {l : Line} → n ≡ first_of 10 (waiting s buf) → (n ≡ s.have - s.at → ⊥) → l ≡ line_of s.long s.at (s.at + n)
+  pub taken_line : {n : ℕ} {l : Line} → Some n ≡ first_in 10 (waiting s buf) → l ≡ line_of s.long s.at (s.at + n)
       → record { input = record { at = s.at + n + 1; have = s.have; long = false; more = true }; line = l } ≡ taken_of s buf
   unfolding taken_of
-  taken_line {n} {l} e h q = line ∙ ap (taken_by s) e where
+  taken_line {n} {l} e q = line ∙ ap (taken_by s) f.0 where
+    f : (n ≡ first_of 10 (waiting s buf)) × (n < length (waiting s buf))
+    f = first_some 10 (waiting s buf) n e
+
     line : record { input = record { at = s.at + n + 1; have = s.have; long = false; more = true }; line = l } ≡ taken_by s n
-    line = rw (ne_eqb n (s.have - s.at) h, q)
+    line = rw (ne_eqb n (s.have - s.at) (λ h. omega (arith, h, f.1, length-take (s.have - s.at) (drop s.at buf))), q)
 
 -- ---- the buffer after reading on: the bytes that are kept were moved to its front, and ys was read behind them
 module _ (k : Input) (buf ys : List ℕ) (room : ℕ) (ordered : k.at ≤ k.have) (within : k.have ≤ length buf) where

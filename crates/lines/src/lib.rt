@@ -20,7 +20,7 @@ pub struct Input {
     pub more: bool,
 }
 
-// Three cases, of which two hold nothing: an Option of an Option would be no plainer (d).
+// Three cases, of which two hold nothing: as an `Option<Result<.., TooLong>>` each `match` would name the same three (d).
 #[derive(Clone, Copy)]
 pub enum Line {
     // It lies from `start` to `end` in the buffer.
@@ -119,13 +119,12 @@ impl<'a, R: Read> Lines<'a, R> {
         ensures { (result ≡ taken_of self.now.input self.now.buf.now) × Within result.input self.now.buf.now }
     {
         let s = self.input;
-        let n = fields::find(&self.buf[s.at..s.have], b'\n');
-        if n == s.have - s.at {
+        let Some(n) = fields::first_place(&self.buf[s.at..s.have], b'\n') else {
             return Step {
                 input: s,
                 line: Line::Nothing,
             };
-        }
+        };
         let end = s.at + n;
         Step {
             input: Input {

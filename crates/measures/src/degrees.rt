@@ -13,7 +13,8 @@ pub fn within(x: f64, most: f64) -> bool
     x >= -most && x <= most
 }
 
-// Question 4: are both degrees finite, lat -90 to 90, lon -180 to 180? C hands the two over by themselves, and so they come down to here (a).
+// Question 4: are both degrees finite, lat -90 to 90, lon -180 to 180? C hands the two over by themselves, and 01's site and a
+// position hold them flat: a type of both would be put together and taken apart at each of these (a).
 pub fn in_degrees(lat: f64, lon: f64) -> bool
     ensures { result ≡ in_degrees lat lon }
 {
@@ -21,6 +22,7 @@ pub fn in_degrees(lat: f64, lon: f64) -> bool
 }
 
 // The same of the bits of two floats, with no float made: of the patterns of one sign the order is that of the numbers, and a NaN's stand behind them all.
+// Every call asks it of each row with a site, and with floats it took 3.6 ns in place of 2.3 (b).
 pub fn bits_in_degrees(lat: u64, lon: u64) -> bool
     ensures { result ≡ in_degrees (from_bits binary64 lat) (from_bits binary64 lon) }
 {

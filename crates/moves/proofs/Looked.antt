@@ -32,7 +32,8 @@ use Rattle.verdicts.specs.Verdict.{verdict_fits}
 use Rattle.sites.specs.declared.Site.{Site}
 use Rattle.receiver.specs.Calls.{Act, claim, Out, kind, row_act, siting, unmade_part, call_on}
 use Rattle.rows.specs.declared.Row.{Row}
-use Rattle.rows.specs.Read.{form, fits, row_is, ends_of, ends_is, watch_of, watch_is, looked_in, Looked}
+use Rattle.rows.specs.Read.{form, fits, row_is, watch_of, watch_is, looked_in, Looked}
+use Rattle.scans.specs.Ends.{ends_of, ends_is}
 use Rattle.rows.specs.Links.{blank, part_at, room_ends, seat_of}
 use Rattle.rows.proofs.Chains.{rows_long_lem, row_is_lem}
 use Rattle.rows.proofs.Passed.{Passed, passed, no_ok, one_ok, one_err}

@@ -18,7 +18,7 @@ use Rattle.receiver.specs.declared.Part.{Part}
 use Rattle.heard.specs.Heard.{width, empty_cells}
 use Rattle.receiver.specs.Calls.{Out, fresh_call}
 use Rattle.rows.specs.declared.Row.{Row}
-use Rattle.rows.specs.Read.{form, row_is, ends_of, ends_is, watch_is}
+use Rattle.rows.specs.Read.{form, row_is, watch_is}
 use Rattle.rows.specs.Links.{fresh_from}
 use Rattle.rows.specs.Search.{sizes_of}
 use Rattle.rows.proofs.Chains.{rows_long_lem}
@@ -28,7 +28,7 @@ use Rattle.moves.specs.Answers.{Answer, answer_is, outcome}
 use Rattle.std.specs.Prelude.{Ok, Err}
 use Rattle.table.specs.declared.Refusal.TheVariants as R
 use Rattle.scans.specs.declared.Ends.{Ends}
-use Rattle.scans.specs.Ends.{fresh_ends}
+use Rattle.scans.specs.Ends.{ends_of, ends_is, fresh_ends}
 
 sizes_so : (xs : List Row) (ys ws : List ℕ) → question1 form (watch_is xs ys ws) ≡ sizes_of (length xs) (length ys)
 unfolding question1

@@ -28,14 +28,15 @@ use Rattle.heard.specs.declared.Heard.{Heard}
 use Rattle.receiver.specs.declared.Part.{Part}
 use Rattle.heard.specs.declared.Position.{Position}
 use Rattle.heard.specs.declared.Claiming.{Claiming}
-use Rattle.heard.specs.declared.Counting.{Counting}
+use Rattle.heard.specs.declared.counting.Counting.{Counting}
 use Rattle.heard.specs.Heard.{width, empty_cells, Moved, claimed, positioned}
 use Rattle.verdicts.specs.Verdict.{says_verdict, too_soon}
 use Rattle.heard.specs.Answers.{claiming_is, counting_is, hearing_is}
 use Rattle.receiver.specs.Calls.{Act, claim, position, judging, check, take_out, Out, generation_is, judgment_is, says, freed, done, kind, row_act, claim_done, position_done, judging_of, judged_part, siting, unmade_part, drop_oldest}
 use Rattle.rows.specs.declared.Row.{Row}
 use Rattle.rows.specs.declared.Seat.{Seat}
-use Rattle.rows.specs.Read.{form, row_is, ends_of, ends_is, watch_of, watch_is, Looked}
+use Rattle.rows.specs.Read.{form, row_is, watch_of, watch_is, Looked}
+use Rattle.scans.specs.Ends.{ends_of, ends_is}
 use Rattle.rows.specs.Links.{blank, with_part, part_at, parted_rows, released_rows, released_ends, marked_rows, marked_ends, room_rows, room_ends, entered_rows, entered_ends, seat_of, seated_rows, made_seat}
 use Rattle.rows.proofs.Chains.{row_is_lem, unlinked_long, free_is_lem, touch_is, put_is, take_is, room_is}
 use Rattle.moves.specs.declared.Word.TheVariants as Wd

@@ -1,5 +1,5 @@
 -- The near field's answers, one law for each way. Assumes nothing.
-use mathlib.Core.Path.{◌≡◌, refl, sym, ap}
+use mathlib.Core.Path.{◌≡◌, refl, sym, ap, ◌∙◌}
 use mathlib.Core.Bool.{◌&&◌, Bool, true, false, cond}
 use mathlib.Core.List.{List, [], ◌∷◌}
 use Prim.Native.Nat.{ℕ, ◌*◌, ◌≤◌, ◌<◌}
@@ -11,6 +11,7 @@ use Rattle.cells.proofs.Passes.{pass_all, some_none, table_same}
 use Rattle.view.specs.View.{Unheard}
 use Rattle.near_field.specs.Sorted.{those}
 use Rattle.plane.specs.Plane.{square, said, from_site}
+use Rattle.around.specs.declared.Nearby.{Nearby}
 use Rattle.around.specs.Marks.{occ, near, in_sector, marks_of, around_of, sectors_in}
 use Rattle.near_field.specs.Near.{cell_distances, no_hole, best_of, members, mean_square, found_of, best_or_none, near_field_by}
 use Rattle.near_field.specs.declared.Judgment.TheVariants.{Unjudged, Fits, Wrong}
@@ -22,7 +23,11 @@ four s h k = omega arith
 not_four : (s : ℕ) → s ≤ 3 → s ≡ 4 → ⊥
 not_four s h e = omega arith
 
-module _ (scale : ℕ) (g : List ℕ) (s : ℕ) (e : s ≡ sectors_in (around_of g 40 40).marks) where
+-- s sectors around the site
+module _ (scale : ℕ) (g : List ℕ) (s : ℕ) (a : Nearby) (is : a ≡ around_of g 40 40) (many : s ≡ sectors_in a.marks) where
+  e : s ≡ sectors_in (around_of g 40 40).marks
+  e = many ∙ ap (λ (a : Nearby). sectors_in a.marks) is
+
   under_5 : s < 5 → leb 5 (sectors_in (around_of g 40 40).marks) ≡ false
   under_5 h = lt-leb 5 (sectors_in (around_of g 40 40).marks) (rw e at h)
 
@@ -63,8 +68,8 @@ module _ (g : List ℕ) (u : Unheard g) where
   no_cell = rw (pass_all (λ (i : ℕ) (xs : List ℕ). cond (occ g i) (from_site i ∷ xs) xs) [] 1600 (λ i l xs. rw (u i l)))
 
   pub nf_unheard : (scale : ℕ) (out : Bool) → Unjudged ≡ near_field_by scale g out
-  nf_unheard scale true = nf_hole scale g 0 (sym no_sector) true (omega arith) (omega arith) refl no_cell
-  nf_unheard scale false = nf_inside scale g 0 (sym no_sector) false (omega arith) (omega arith) refl
+  nf_unheard scale true = nf_hole scale g 0 _ refl (sym no_sector) true (omega arith) (omega arith) refl no_cell
+  nf_unheard scale false = nf_inside scale g 0 _ refl (sym no_sector) false (omega arith) (omega arith) refl
 
 pub no_best : (scale : ℕ) (g : List ℕ) (b : ℕ) → b ≡ 1600 → Unjudged ≡ best_or_none scale g b
 unfolding best_or_none

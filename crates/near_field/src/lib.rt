@@ -1,4 +1,4 @@
-// The near field: a judgment by what lies around the site, and around the places of the grid. Its words are those of every judging.
+// The near field: a judgment by what lies around the site, and around the places of the grid. Its two enums are those of every judging.
 #![tactic(auto)]
 
 pub mod near;

@@ -39,9 +39,9 @@ pub fn no_hole(grid: &[u32; 1600]) -> bool
 // How many members there are, and the sums of their easts and norths.
 #[derive(Clone, Copy)]
 struct Group {
-    pub cells: u32,
-    pub east: u32,
-    pub north: u32,
+    cells: u32,
+    east: u32,
+    north: u32,
 }
 
 // A grid, and before each cell how many are occupied.
@@ -135,7 +135,8 @@ impl<'a> Counted<'a> {
     }
 }
 
-// The near-field judgment of a site outside what is heard, or not, for cells of any width.
+// The near-field judgment of a site outside what is heard, or not: scale is 1 for cells of 5 km and 4 for cells of 10 km, for which the
+// same half cells hold. Only those of 5 km are judged so far; the contract is for both.
 pub fn near_field_by(grid: &[u32; 1600], outside: bool, scale: u64) -> Judgment
     requires { scale ≤ 4 }
     ensures { result ≡ near_field_by scale grid.now outside }

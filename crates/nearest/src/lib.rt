@@ -1,13 +1,15 @@
 // The places heard, for crate `nothing_near`: their positions gathered by the 5 km step that their distance is said in, and the two nearest of them. Nothing is
-// sorted here. What 01 calls nothing near is defined in specs/Nothing, over the list of all places, with its answer `Empty`.
+// sorted here. What 01 calls nothing near is defined in specs/Nothing, over the list of all places.
 #![tactic(auto)]
 
 ghost use Rattle.std.specs.Prelude.{◌≡◌, List, [], ℕ, ◌+◌, ◌≤◌, ◌<◌, get_or, set};
 ghost use Rattle.cells.specs.Cells.{count_of};
 ghost use Rattle.view.specs.View.{positions_among};
+ghost use Rattle.nearest.specs.declared.Spot.{Spot};
 ghost use Rattle.nearest.specs.Counted.{cell_step, bin_step, cell_steps, all_steps, cell_spot, bin_spot, two_nearest, put, nearer, nearest_among};
 
 use plane::Index;
+use view::Far;
 
 // A place heard: the square of its nearest distance, half cells, the steps of its typical one, and its positions.
 #[derive(Clone, Copy)]
@@ -74,15 +76,15 @@ pub fn cell_steps(grid: &[u32; 1600]) -> [u32; 161]
     at
 }
 
-// The positions of the bins, which are so many, with those of the cells, by their steps: once all are seen no other bin is occupied.
-pub fn with_bins(cells: [u32; 161], bins: [u32; 72], positions: u32) -> [u32; 161]
-    requires { ((grid : List ℕ) × (cells ≡ cell_steps grid)) × (positions ≡ positions_among bins 72) }
-    ensures { (grid : List ℕ) → cells ≡ cell_steps grid → result ≡ all_steps grid bins }
+// The positions of the bins with those of the cells, by their steps: once all are seen no other bin is occupied.
+pub fn with_bins(cells: [u32; 161], far: Far) -> [u32; 161]
+    requires { ((grid : List ℕ) × (cells ≡ cell_steps grid)) × (far.positions ≡ positions_among far.cells 72) }
+    ensures { (grid : List ℕ) → cells ≡ cell_steps grid → result ≡ all_steps grid far.cells }
 {
     let mut at = cells;
     let mut seen = 0;
-    for (j, w) in bins.iter().enumerate() {
-        if positions <= seen {
+    for (j, w) in far.cells.iter().enumerate() {
+        if far.positions <= seen {
             return at;
         }
         if cells::occupied(*w) {
@@ -95,7 +97,7 @@ pub fn with_bins(cells: [u32; 161], bins: [u32; 72], positions: u32) -> [u32; 16
     at
 }
 
-// None is farther than any place, and has no positions: so no comparison asks whether there is one.
+// None is farther than any place, and has no positions: so no comparison asks whether there is one (d).
 pub fn none_nearest() -> Nearest
     ensures { result ≡ two_nearest [] }
 {
@@ -126,17 +128,17 @@ fn put(near: Nearest, spot: Spot) -> Nearest
     }
 }
 
-// The two nearest with one more cell, behind its equals.
-fn with_cell(near: Nearest, w: u32, at: Index) -> Nearest
-    ensures { result ≡ nearer near (cell_spot w at.i) }
+// The two nearest with one more place, of distance `nearest` and word w, behind its equals. Its steps are looked for only where it is near.
+fn nearer<F: FnOnce() -> usize>(near: Nearest, nearest: u64, w: u32, step: F) -> Nearest
+    requires { F.IsAlwaysCallable step }
+    ensures { (s : Spot) → s.nearest ≡ nearest → s.positions ≡ count_of w → ((k : ℕ) → F.post step k → k ≡ s.step) → result ≡ nearer near s }
 {
-    let d = at.from_site();
-    if d < near.second.nearest {
+    if nearest < near.second.nearest {
         return put(
             near,
             Spot {
-                nearest: d,
-                step: cell_step(at),
+                nearest,
+                step: step(),
                 positions: cells::count_of(w),
             },
         );
@@ -144,22 +146,18 @@ fn with_cell(near: Nearest, w: u32, at: Index) -> Nearest
     near
 }
 
-// The same with one more bin.
+// The same with a cell.
+fn with_cell(near: Nearest, w: u32, at: Index) -> Nearest
+    ensures { result ≡ nearer near (cell_spot w at.i) }
+{
+    nearer(near, at.from_site(), w, || cell_step(at))
+}
+
+// The same with a bin.
 fn with_bin(near: Nearest, w: u32, j: usize) -> Nearest
     ensures { result ≡ nearer near (bin_spot w j) }
 {
-    let d = BANDS[j % 9].0;
-    if d < near.second.nearest {
-        return put(
-            near,
-            Spot {
-                nearest: d,
-                step: bin_step(j),
-                positions: cells::count_of(w),
-            },
-        );
-    }
-    near
+    nearer(near, BANDS[j % 9].0, w, || bin_step(j))
 }
 
 // The two nearest cells.
@@ -175,15 +173,15 @@ pub fn nearest_cells(grid: &[u32; 1600]) -> Nearest
     near
 }
 
-// The two nearest of some places and the bins, whose positions are so many.
-pub fn nearest_bins(places: Nearest, bins: [u32; 72], positions: u32) -> Nearest
-    requires { positions ≡ positions_among bins 72 }
-    ensures { result ≡ nearest_among bin_spot bins places 72 }
+// The two nearest of some places and the bins.
+pub fn nearest_bins(places: Nearest, far: Far) -> Nearest
+    requires { far.positions ≡ positions_among far.cells 72 }
+    ensures { result ≡ nearest_among bin_spot far.cells places 72 }
 {
     let mut near = places;
     let mut seen = 0;
-    for (j, w) in bins.iter().enumerate() {
-        if positions <= seen {
+    for (j, w) in far.cells.iter().enumerate() {
+        if far.positions <= seen {
             return near;
         }
         if cells::occupied(*w) {

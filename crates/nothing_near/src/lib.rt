@@ -5,7 +5,7 @@
 ghost use Rattle.std.specs.Prelude.{◌≡◌, List, ℕ, ◌-◌, ◌≤◌, ◌<◌, min, ltb, get_or, set};
 ghost use Rattle.cells.specs.Passes.{first};
 ghost use Rattle.plane.specs.Plane.{steps};
-ghost use Rattle.view.specs.View.{Unheard};
+ghost use Rattle.view.specs.View.{Unheard, positions_among};
 ghost use Rattle.nearest.specs.Nothing.{km, places_heard, places, third, from_third, positions_in, typical_in, nothing_near};
 ghost use Rattle.nearest.specs.Counted.{below};
 ghost use Rattle.nothing_near.specs.Counted.{near_cells, reached_at, Kept};
@@ -59,8 +59,8 @@ fn typical_steps(at: [u32; 161], total: u32) -> u32
     ensures { (result ≡ first (reached_at at total) 160) × (result ≤ 160) }
 {
     let mut passed = 0;
-    for k in 0..160 {
-        passed += at[k];
+    for (k, n) in at[..160].iter().enumerate() {
+        passed += *n;
         if total <= 2 * passed {
             return k as u32;
         }
@@ -96,35 +96,49 @@ fn steps_from_third(at: [u32; 161], total: u32, near: Nearest) -> u32
     typical_steps(without(later, second), left - second.positions)
 }
 
-// The nothing-near distance, if nothing is near. The bins are summed here, so nothing is asked of `far.positions`.
+// How many positions were heard, in all and past the grid. They are summed here, so nothing is asked of `far.positions`.
+fn positions_heard(m: Merged) -> (u32, u32)
+    ensures { (result.0 ≡ positions_in (places_heard m.entry.grid.now m.entry.far)) × (result.1 ≡ positions_among m.entry.far.cells 72) }
+{
+    let grid = m.grid;
+    let past = view::positions_among(&m.far.cells);
+    (view::positions_among(grid) + past, past)
+}
+
+// The nothing-near distance, if nothing is near.
 pub fn nothing_near(m: Merged) -> Option<u32>
     ensures { result ≡ nothing_near m.entry.grid.now m.entry.far }
 {
-    let bins = m.far.cells;
-    let grid = m.grid;
-    let inside = view::positions_among(grid);
-    let past = view::positions_among(&bins);
-    let total = inside + past;
+    let (total, past) = positions_heard(m);
     if total < 60 {
         return None;
     }
     if third_is_near(m) {
         return None;
     }
-    let near = nearest_bins(nearest_cells(grid), bins, past);
-    let k = steps_from_third(with_bins(cell_steps(grid), bins, past), total, near);
+    let grid = m.grid;
+    let far = Far {
+        positions: past,
+        ..m.far
+    };
+    let near = nearest_bins(nearest_cells(grid), far);
+    let k = steps_from_third(with_bins(cell_steps(grid), far), total, near);
     Some(plane::steps_km(k))
 }
 
-// The same where no cell of the grid is occupied: no bin is near.
+// The same where no cell of the grid is occupied: no bin is near. One function over `Merged` and `Far` would be a trait of the positions, the
+// third nearest place, the steps and the two nearest cells, each in two impls, for the three lines that both have (d).
 pub fn nothing_near_far(far: Far) -> Option<u32>
     ensures { (grid : List ℕ) → Unheard grid → result ≡ nothing_near grid far }
 {
-    let bins = far.cells;
-    let total = view::positions_among(&bins);
+    let total = view::positions_among(&far.cells);
     if 60 <= total {
-        let near = nearest_bins(none_nearest(), bins, total);
-        let k = steps_from_third(with_bins([0u32; 161], bins, total), total, near);
+        let far = Far {
+            positions: total,
+            ..far
+        };
+        let near = nearest_bins(none_nearest(), far);
+        let k = steps_from_third(with_bins([0u32; 161], far), total, near);
         return Some(plane::steps_km(k));
     }
     None

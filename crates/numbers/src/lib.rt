@@ -4,7 +4,7 @@
 ghost use Rattle.std.specs.Prelude.{◌≡◌, ◌<◌, ◌≤◌, ◌^◌, ◌-◌, pos, neg_ℤ};
 ghost use Rattle.numbers.specs.Numbers.{digit_of, number_on, whole_of, is_minus, unsigned_of, minus_of, plus_of, signed_of};
 
-// The value of a digit. Any other byte is 16, which is a digit in no base up to 16; `read_on` promises for every base, and there it counts as 16.
+// The value of a digit. Any other byte is 16, which is a digit in no base up to 16; `read_on` promises for every base, and there it counts as 16 (d).
 #[tactic(auto, unfolding(crate::specs::Numbers::digit_of))]
 pub fn digit(c: u8) -> u64
     ensures { result ≡ digit_of c }
@@ -48,7 +48,8 @@ pub fn read_whole(s: &[u8], most: u64) -> Option<u64>
     read_on(0, s, 10, most)
 }
 
-// Whether a minus sign stands in front, and what is left without it.
+// Whether a minus sign stands in front, and what is left without it: two, each promised by itself: one that answers both
+// would be a pair that each caller opens (d).
 pub fn is_minus(s: &[u8]) -> bool
     ensures { result ≡ is_minus s.now }
 {
@@ -61,31 +62,13 @@ pub fn unsigned(s: &[u8]) -> &[u8]
     s.strip_prefix(b"-").unwrap_or(s)
 }
 
-// A decimal number behind its minus sign.
-#[tactic(auto, using(crate::proofs::Values::whole_within))]
-fn read_minus(s: &[u8]) -> Option<i32>
-    ensures { result ≡ minus_of (whole_of (2 ^ 31) s.now) }
-{
-    let n = read_whole(s, 2147483648)?;
-    Some((-(n as i64)) as i32)
-}
-
-#[tactic(auto, using(crate::proofs::Values::whole_within))]
-fn read_plus(s: &[u8]) -> Option<i32>
-    ensures { result ≡ plus_of (whole_of (2 ^ 31 - 1) s.now) }
-{
-    let n = read_whole(s, 2147483647)?;
-    Some(n as i32)
-}
-
-// A decimal i32. Each sign has its own limit, and so its own reader (d).
-#[tactic(auto, unfolding(crate::specs::Numbers::signed_of))]
+// A decimal i32. Behind a minus sign it may be one more.
+#[tactic(auto, using(crate::proofs::Values::whole_within), unfolding(crate::specs::Numbers::signed_of))]
 pub fn read_signed(s: &[u8]) -> Option<i32>
     ensures { result ≡ signed_of s.now }
 {
-    if is_minus(s) {
-        read_minus(unsigned(s))
-    } else {
-        read_plus(unsigned(s))
-    }
+    let minus = is_minus(s);
+    let most = if minus { 2147483648 } else { 2147483647 };
+    let n = read_whole(unsigned(s), most)? as i64;
+    Some((if minus { -n } else { n }) as i32)
 }

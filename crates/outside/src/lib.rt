@@ -9,9 +9,9 @@ ghost use Rattle.plane.specs.Plane.{east_of, north_of, from_site, over3, sector_
 ghost use Rattle.around.specs.Marks.{cell_in, bin_in, outside_of};
 
 use angles::bearing;
-use around::sectors;
+use around::{Sector, sectors};
 use plane::Index;
-use trig::num;
+use trig::num::Num;
 use view::{Far, Merged};
 
 // The marks with that of cell i, seen from the site, if it is occupied and over 3 km away. Its word and its number come from a loop over the
@@ -24,10 +24,10 @@ fn cell_mark(marks: [bool; 8], w: u32, at: Index) -> [bool; 8]
     }
     if 144 < 100 * at.from_site() {
         let centre = at.centre().place;
-        let east = num::sub(centre.x as u64, 40);
-        let north = num::sub(centre.y as u64, 40);
+        let east = Num::from(centre.x as i64 - 40);
+        let north = Num::from(centre.y as i64 - 40);
         let k = bearing::sector_of(east, north);
-        return around::with_mark(marks, k as usize, true);
+        return Sector { k: k as usize }.mark(marks, true);
     }
     marks
 }
@@ -45,12 +45,11 @@ fn cell_marks(grid: &[u32; 1600]) -> [bool; 8]
     m
 }
 
-// Whether a bin of sector k is occupied.
-fn bin_heard(bins: &[u32; 72], k: usize) -> bool
-    requires { k < 8 }
-    ensures { result ≡ some (bin_in bins.now k) 72 }
+// Whether a bin of a sector is occupied.
+fn bin_heard(bins: &[u32; 72], sector: Sector) -> bool
+    ensures { result ≡ some (bin_in bins.now sector.k) 72 }
 {
-    view::heard_among(&bins[9 * k..9 * k + 9])
+    view::heard_among(&bins[9 * sector.k..9 * sector.k + 9])
 }
 
 // The marks with those of the bins.
@@ -59,7 +58,8 @@ fn bin_marks(marks: [bool; 8], bins: &[u32; 72]) -> [bool; 8]
 {
     let mut m = marks;
     for k in 0..8 {
-        let next = around::with_mark(m, k, bin_heard(bins, k));
+        let sector = Sector { k };
+        let next = sector.mark(m, bin_heard(bins, sector));
         m = next;
     }
     m
@@ -72,7 +72,8 @@ pub fn outside(m: Merged) -> bool
     sectors(bin_marks(cell_marks(m.grid), &m.far.cells)) <= 4
 }
 
-// The same where no cell of the grid is occupied.
+// The same where no cell of the grid is occupied: no mark to begin with. One function over `Merged` and `Far` would be a trait that has this
+// line in each of its two impls (d).
 pub fn outside_far(far: Far) -> bool
     ensures { (grid : List ℕ) → Unheard grid → result ≡ outside_of grid far.cells }
 {

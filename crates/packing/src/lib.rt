@@ -2,7 +2,7 @@
 // follow. Crate `flat` puts them together to a row.
 #![tactic(auto)]
 
-ghost use Rattle.std.specs.Prelude.{◌≡◌, ℕ, ◌≤◌, ◌+◌, ◌%◌, leb, length, T, IfSome, ⊤};
+ghost use Rattle.std.specs.Prelude.{◌≡◌, ℕ, Bool, List, ◌≤◌, ◌+◌, ◌%◌, leb, length, T, IfSome, ⊤};
 ghost use Rattle.std.specs.Float.{binary64};
 ghost use Rattle.std.specs.Float.Ieee.{to_bits, fits};
 ghost use Rattle.std.specs.Int.{w32, w64, from_le_bytes};
@@ -18,7 +18,8 @@ use verdicts::{Last, Verdict};
 
 // ---- a value that one word holds
 
-// Each type says how its word is made, tested and read, in however few words: what holds a value or none is generic over it (d).
+// Each type says how its word is made, tested and read, in however few words: what holds a value or none is generic over it. Each of these tests and conversions is
+// one of the trait's methods, so it stands once for its type, and no derive knows it (d).
 pub trait Word: Copy {
     // The largest word of such a value.
     ghost most: { ℕ };
@@ -179,7 +180,7 @@ impl Word for Last {
 
     ghost laws = { last_laws };
 
-    // The numbers are those of siting.h and of a row line, so they stand here, with the words (a).
+    // The numbers are those of siting.h and of a row line: they stand here, with the words, and `verdicts` knows none (a).
     fn word(self) -> u64 {
         match self {
             Last::Unjudged => 0,
@@ -201,37 +202,64 @@ impl Word for Last {
     }
 }
 
-// ---- such a value or none: 1 and its word, or two zeros
+// ---- a value that several words hold
 
-pub fn maybe_words<T: Word>(x: Option<T>) -> [u64; 2]
-    ensures words { result ≡ maybe_words T.to_word x }
-    ensures in_type { IfSome x T.InType }
-{
-    match x {
-        Some(v) => [1, v.word()],
-        None => [0, 0],
-    }
+// What `Word` is for one word: N words, whatever words follow them. No `From`: Rust refuses one between an Option and an array, which are both the library's (d).
+pub trait Words<const N: usize>: Copy {
+    ghost to_words: { Self → List ℕ };
+
+    ghost of_words: { List ℕ → Self };
+
+    ghost words_fit: { List ℕ → Bool };
+
+    // The values that the type has.
+    ghost InTypes: { Self → Type 0 };
+
+    fn words(self) -> [u64; N]
+        ensures words { result ≡ to_words self }
+        ensures in_types { InTypes self };
+
+    fn fit(words: &[u64]) -> bool
+        requires { N ≤ length words.now }
+        ensures { result ≡ words_fit words.now };
+
+    // Of words that fit; any others are cut to such.
+    fn from_words(words: &[u64]) -> Self
+        requires { N ≤ length words.now }
+        ensures { result ≡ of_words words.now };
 }
 
-pub fn maybe_fits<T: Word>(words: &[u64]) -> bool
-    requires { 2 ≤ length words.now }
-    ensures { result ≡ maybe_fits T.most words.now }
-{
-    match words[0] {
-        0 => words[1] == 0,
-        1 => T::fits(words[1]),
-        _ => false,
-    }
-}
+// A value of one word or none: 1 and its word, or two zeros.
+impl<T: Word> Words<2> for Option<T> {
+    ghost to_words = { maybe_words T.to_word };
 
-pub fn maybe_of<T: Word>(words: &[u64]) -> Option<T>
-    requires { 2 ≤ length words.now }
-    ensures { result ≡ maybe_of T.of_word words.now }
-{
-    if words[0] == 0 {
-        return None;
+    ghost of_words = { maybe_of T.of_word };
+
+    ghost words_fit = { maybe_fits T.most };
+
+    ghost InTypes = { λ x. IfSome x T.InType };
+
+    fn words(self) -> [u64; 2] {
+        match self {
+            Some(v) => [1, v.word()],
+            None => [0, 0],
+        }
     }
-    Some(T::from_word(words[1]))
+
+    fn fit(words: &[u64]) -> bool {
+        match words[0] {
+            0 => words[1] == 0,
+            1 => T::fits(words[1]),
+            _ => false,
+        }
+    }
+
+    fn from_words(words: &[u64]) -> Option<T> {
+        if words[0] == 0 {
+            return None;
+        }
+        Some(T::from_word(words[1]))
+    }
 }
 
 // Are these words those of none?
@@ -256,6 +284,7 @@ fn word_at(bytes: &[u8], i: usize) -> u64
     u64::from_le_bytes(*bytes[i..].first_chunk().unwrap())
 }
 
+// `word_at` of a key, whose length its type says: the clause asks of the place alone (d).
 pub fn key_word(key: [u8; 32], i: usize) -> u64
     requires { i + 8 ≤ 32 }
     ensures { (result ≡ from_le_bytes w64 (eight key i)) × (Bytes (eight key i) × (length key ≡ 32)) }
@@ -275,6 +304,7 @@ pub fn key_words(key: [u8; 32]) -> [u64; 4]
     ]
 }
 
+// Of `array::from_fn` it stayed open that its 32 answers are `key_of` (c).
 pub fn key_at(words: &[u64]) -> [u8; 32]
     requires { 4 ≤ length words.now }
     ensures { result ≡ key_of words.now }
@@ -294,70 +324,50 @@ fn bits(x: f64) -> u64
     print::bits_of(x)
 }
 
-#[tactic(auto, unfolding(crate::specs::Words::site_words))]
-pub fn site_words(site: Option<Site>) -> [u64; 5]
-    ensures { (result ≡ site_words site) × SiteIn site }
-{
-    match site {
-        Some(s) => {
-            let alt = maybe_words(s.alt_m);
-            [1, bits(s.lat), bits(s.lon), alt[0], alt[1]]
+impl Words<5> for Option<Site> {
+    ghost to_words = { site_words };
+
+    ghost of_words = { site_of };
+
+    ghost words_fit = { site_fits };
+
+    ghost InTypes = { SiteIn };
+
+    #[tactic(auto, unfolding(crate::specs::Words::site_words))]
+    fn words(self) -> [u64; 5] {
+        match self {
+            Some(s) => {
+                let alt = s.alt_m.words();
+                [1, bits(s.lat), bits(s.lon), alt[0], alt[1]]
+            }
+            None => [0; 5],
         }
-        None => [0; 5],
     }
-}
 
-pub fn site_fits(words: &[u64]) -> bool
-    requires { 5 ≤ length words.now }
-    ensures { result ≡ site_fits words.now }
-{
-    match words[0] {
-        0 => zeros(&words[1..5]),
-        1 => maybe_fits::<i32>(&words[3..]),
-        _ => false,
+    fn fit(words: &[u64]) -> bool {
+        match words[0] {
+            0 => zeros(&words[1..5]),
+            1 => <Option<i32>>::fit(&words[3..]),
+            _ => false,
+        }
     }
-}
 
-// No `From`, here and of a verdict: an Option and a slice are both the library's (d).
-#[tactic(auto, unfolding(crate::specs::Words::site_of))]
-pub fn site_of(words: &[u64]) -> Option<Site>
-    requires { 5 ≤ length words.now }
-    ensures { result ≡ site_of words.now }
-{
-    if words[0] == 0 {
-        return None;
+    #[tactic(auto, unfolding(crate::specs::Words::site_of))]
+    fn from_words(words: &[u64]) -> Option<Site> {
+        if words[0] == 0 {
+            return None;
+        }
+        Some(Site {
+            lat: reals::float_of(words[1]),
+            lon: reals::float_of(words[2]),
+            alt_m: Words::from_words(&words[3..]),
+        })
     }
-    Some(Site {
-        lat: reals::float_of(words[1]),
-        lon: reals::float_of(words[2]),
-        alt_m: maybe_of(&words[3..]),
-    })
 }
 
 // ---- verdict
 
-#[tactic(auto, unfolding(crate::specs::Words::verdict_words))]
-pub fn verdict_words(verdict: Option<Verdict>) -> [u64; 7]
-    ensures { (result ≡ verdict_words verdict) × VerdictIn verdict }
-{
-    match verdict {
-        Some(v) => {
-            let by = maybe_words(v.wrong_by);
-            [
-                1,
-                v.last.word(),
-                v.wrong_run.word(),
-                v.other_run.word(),
-                by[0],
-                by[1],
-                v.moved.word(),
-            ]
-        }
-        None => [0; 7],
-    }
-}
-
-// Seven words of a longer slice, here and below: an array would ask callers for no more than seven (d).
+// Seven words of a longer slice: an array would ask callers for no more than seven (d).
 #[tactic(auto, unfolding(crate::specs::Words::run_fits))]
 fn run_fits(words: &[u64]) -> bool
     requires { 7 ≤ length words.now }
@@ -367,35 +377,58 @@ fn run_fits(words: &[u64]) -> bool
         && Last::fits(words[1])
         && u8::fits(words[2])
         && u8::fits(words[3])
-        && maybe_fits::<u32>(&words[4..])
+        && <Option<u32>>::fit(&words[4..])
         && bool::fits(words[6])
 }
 
-pub fn verdict_fits(words: &[u64]) -> bool
-    requires { 7 ≤ length words.now }
-    ensures { result ≡ verdict_fits words.now }
-{
-    if words[0] == 0 {
-        return zeros(&words[1..7]);
-    }
-    run_fits(words)
-}
+impl Words<7> for Option<Verdict> {
+    ghost to_words = { verdict_words };
 
-#[tactic(auto, unfolding(crate::specs::Words::verdict_of, crate::specs::Words::run_of))]
-pub fn verdict_of(words: &[u64]) -> Option<Verdict>
-    requires { 7 ≤ length words.now }
-    ensures { result ≡ verdict_of words.now }
-{
-    if words[0] == 0 {
-        return None;
+    ghost of_words = { verdict_of };
+
+    ghost words_fit = { verdict_fits };
+
+    ghost InTypes = { VerdictIn };
+
+    #[tactic(auto, unfolding(crate::specs::Words::verdict_words))]
+    fn words(self) -> [u64; 7] {
+        match self {
+            Some(v) => {
+                let by = v.wrong_by.words();
+                [
+                    1,
+                    v.last.word(),
+                    v.wrong_run.word(),
+                    v.other_run.word(),
+                    by[0],
+                    by[1],
+                    v.moved.word(),
+                ]
+            }
+            None => [0; 7],
+        }
     }
-    Some(Verdict {
-        last: Last::from_word(words[1]),
-        wrong_run: u8::from_word(words[2]),
-        other_run: u8::from_word(words[3]),
-        wrong_by: maybe_of(&words[4..]),
-        moved: bool::from_word(words[6]),
-    })
+
+    fn fit(words: &[u64]) -> bool {
+        if words[0] == 0 {
+            return zeros(&words[1..7]);
+        }
+        run_fits(words)
+    }
+
+    #[tactic(auto, unfolding(crate::specs::Words::verdict_of, crate::specs::Words::run_of))]
+    fn from_words(words: &[u64]) -> Option<Verdict> {
+        if words[0] == 0 {
+            return None;
+        }
+        Some(Verdict {
+            last: Last::from_word(words[1]),
+            wrong_run: u8::from_word(words[2]),
+            other_run: u8::from_word(words[3]),
+            wrong_by: Words::from_words(&words[4..]),
+            moved: bool::from_word(words[6]),
+        })
+    }
 }
 
 // ---- stores

@@ -11,7 +11,8 @@ use floats::horizon;
 use sites::Site;
 use view::Far;
 
-// The edge, kilometres, of the band of a bin.
+// The edge, kilometres, of the band of a bin. The nine bands stand in two tables more, in `angles` and in `nearest`: each has its own unit, a
+// haversine, half cells squared, kilometres (d).
 fn edge_km(bin: usize) -> f64
     ensures { result ≡ edge_of bin }
 {
@@ -31,7 +32,8 @@ fn bin_past(w: u32, bin: usize, antenna_root: f64) -> Option<f64>
 }
 
 // The middle excess of the bins past the horizon, if enough are: three bins, three aircraft, one position in twenty. The excesses
-// fill an array from its end, since there is no heap (a).
+// fill an array, since there is no heap (a), and from its end: so they stand as the definition has them, the latest bin's first. From the front
+// they stand the other way round, and the proof would need besides that `sorted` is the same of both (d).
 fn middle_excess(site: Site, far: Far) -> Option<f64>
     ensures { result ≡ past_horizon site far }
 {
@@ -62,7 +64,7 @@ fn middle_excess(site: Site, far: Far) -> Option<f64>
 }
 
 // The same; where fewer than three bins are occupied no root need be taken. A function of its own: in one with `middle_excess` the bins
-// are copied before the test, and a judging where little is heard takes 20 ns more.
+// are copied before the test, and a judging where little is heard takes 20 ns more (b).
 pub fn past_horizon(site: Site, far: Far) -> Option<f64>
     ensures { result ≡ past_horizon site far }
 {

@@ -73,7 +73,8 @@ impl Place {
     }
 }
 
-// √num / den half cells in steps of 5 km, halves up. den is a number of cells, or 1: no more than a grid has.
+// √num / den half cells in steps of 5 km, halves up. den is a number of cells, or 1: no more than a grid has. Tried in turn, as 01 has
+// it: by `isqrt` of num / den² a case for a den of 0 would come before, and the half and the bound of 160 behind (d).
 pub fn steps_of(num: u64, den: u64) -> u32
     requires { den ≤ 1600 }
     ensures { (result ≡ steps num den) × (result ≤ 160) }

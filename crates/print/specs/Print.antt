@@ -1,5 +1,5 @@
 -- Numbers and words as answers write them. Definitions only.
-use Rattle.std.specs.Prelude.{◌≡◌, ℕ, zero, suc, ◌+◌, ◌/◌, ◌%◌, ◌^◌, ◌&&◌, cond, List, [], ◌∷◌, ◌++◌, length, take, drop, eqb, leb, ltb}
+use Rattle.std.specs.Prelude.{◌≡◌, ℕ, zero, suc, ◌+◌, ◌/◌, ◌%◌, ◌^◌, ◌≤◌, ◌&&◌, cond, List, [], ◌∷◌, ◌++◌, length, take, drop, eqb, leb, ltb}
 use Rattle.print.specs.declared.Text.{Text}
 
 -- a digit in ASCII: `0` to `9`, then `a` to `f`
@@ -37,3 +37,11 @@ put_in out at s = cond (leb (at + length s) (length out)) (take at out ++ s ++ d
 
 unfoldable pub put_end : List ℕ → ℕ → List ℕ → ℕ
 put_end out at s = cond (leb (at + length s) (length out)) (at + length s) at
+
+-- Bytes that are put where they fit whole, and nothing said of those that do not: so two parts, one behind the other, are one part.
+unfoldable pub Wrote : List ℕ → ℕ → List ℕ → List ℕ → ℕ → Type 0
+Wrote out n s out' r = n + length s ≤ length out → (r ≡ n + length s) × (out' ≡ put_in out n s)
+
+-- the text that the buffer holds has those bytes behind it then
+unfoldable pub Adds : Text → List ℕ → Text → Type 0
+Adds a s b = SameBuffer a b × Wrote a.out.now a.n s b.out.now b.n

@@ -1,59 +1,22 @@
-// Answers printed: bytes and numbers put into a buffer that is lent.
-#![tactic(auto)]
+// Answers printed: bytes and numbers put into a buffer that is lent. The digits of a number are the library's (`itoa`, `hex`).
+#![tactic(auto, using(crate::proofs::Printing::adds_put, crate::proofs::Printing::decimal_put, crate::proofs::Printing::bits_put, crate::proofs::Printing::byte_put))]
 
-ghost use Rattle.std.specs.Prelude.{◌≡◌, ◌<◌, ◌≤◌, length, drop};
+ghost use Rattle.std.specs.Prelude.{◌≡◌};
 ghost use Rattle.std.specs.Float.{binary64};
 ghost use Rattle.std.specs.Float.Ieee.{to_bits};
 ghost use Rattle.fields.specs.Text.{part_of};
-ghost use Rattle.print.specs.Print.{glyph_of, digits, without_zeros, decimal_text, bits_text, put_in, put_end, SameBuffer};
+ghost use Rattle.print.specs.Print.{digits, decimal_text, bits_text, put_in, put_end, SameBuffer, Adds};
 
 // A buffer that is lent, since there is no heap, and the place where the next bytes go. Nothing is asked of the place: past the buffer's end nothing fits.
-// That a put leaves the same buffer (`SameBuffer`) relates two states of it, so each function that puts says it: no field holds it (d).
+// That a put leaves the same buffer relates two states of it, so no field holds it: `Adds` has it for the crates above, and here each clause stands by its name (d).
 #[derive(Drop)]
 pub struct Text<'a> {
     pub out: &'a mut [u8],
     pub n: usize,
 }
 
-// A digit's byte. `char::from_digit` answers a char or none, which would be unwrapped and cut to a byte (d).
-#[tactic(auto, unfolding(crate::specs::Print::glyph_of))]
-fn glyph(d: u64) -> u8
-    requires { d < 16 }
-    ensures { result ≡ glyph_of d }
-{
-    if d < 10 { 48 + d as u8 } else { 87 + d as u8 }
-}
-
-// The last 20 digits of n: all of them in a base from 10 on. By hand, since the library's `fmt` ensures nothing of what it puts.
-fn spelled(n: u64, base: u64) -> [u8; 20]
-    requires { (1 < base) × (base ≤ 16) }
-    ensures { result ≡ digits base 20 n }
-{
-    let mut out = [48u8; 20];
-    let mut rest = n;
-    for i in (0..20).rev() {
-        out[i] = glyph(rest % base);
-        rest /= base;
-    }
-    out
-}
-
-// How many zeros stand in front of the other digits.
-fn zeros(s: &[u8]) -> usize
-    ensures { (result ≤ length s.now) × (drop result s.now ≡ without_zeros s.now) }
-{
-    if s.is_empty() {
-        return 0;
-    }
-    let last = s.len() - 1;
-    for i in 0..last {
-        if s[i] != b'0' {
-            return i;
-        }
-    }
-    last
-}
-
+// No `fmt::Write` with `write!` and `Display` (c): the impl proves, but `write!` ensures its bytes only where it answers Ok, in parts, and nothing ensures
+// that it does. Tried for `put_decimal`, which cannot fail: both its clauses stayed open, for of an Err nothing is known, not even that the buffer is the same.
 impl<'a> Text<'a> {
     // The bytes in front of the place.
     pub fn bytes(&self) -> &[u8]
@@ -66,6 +29,7 @@ impl<'a> Text<'a> {
     pub fn put(&mut self, s: &[u8])
         ensures put { (self.new.n ≡ put_end self.old.out.now self.old.n s.now) × (self.new.out.now ≡ put_in self.old.out.now self.old.n s.now) }
         ensures buffer { SameBuffer self.old self.new }
+        ensures adds { Adds self.old s.now self.new }
     {
         let at = self.n;
         if at > self.out.len() || s.len() > self.out.len() - at {
@@ -80,37 +44,40 @@ impl<'a> Text<'a> {
     pub fn put_decimal(&mut self, n: u64)
         ensures put { (self.new.n ≡ put_end self.old.out.now self.old.n (decimal_text n)) × (self.new.out.now ≡ put_in self.old.out.now self.old.n (decimal_text n)) }
         ensures buffer { SameBuffer self.old self.new }
+        ensures adds { Adds self.old (decimal_text n) self.new }
     {
-        let d = spelled(n, 10);
-        let z = zeros(&d);
-        self.put(&d[z..]);
+        self.put(itoa::Buffer::new().format(n).as_bytes());
     }
 
     // Puts a byte as two hex digits.
     pub fn put_byte(&mut self, b: u8)
         ensures put { (self.new.n ≡ put_end self.old.out.now self.old.n (digits 16 2 b)) × (self.new.out.now ≡ put_in self.old.out.now self.old.n (digits 16 2 b)) }
         ensures buffer { SameBuffer self.old self.new }
+        ensures adds { Adds self.old (digits 16 2 b) self.new }
     {
-        let n = u64::from(b);
-        self.put(&[glyph(n / 16), glyph(n % 16)]);
+        let mut pair = [0u8; 2];
+        hex::encode_to_slice([b], &mut pair).unwrap();
+        self.put(&pair);
     }
 
     // Puts a number as 16 hex digits.
     pub fn put_bits(&mut self, n: u64)
         ensures put { (self.new.n ≡ put_end self.old.out.now self.old.n (bits_text n)) × (self.new.out.now ≡ put_in self.old.out.now self.old.n (bits_text n)) }
         ensures buffer { SameBuffer self.old self.new }
+        ensures adds { Adds self.old (bits_text n) self.new }
     {
-        let d = spelled(n, 16);
-        self.put(&d[4..]);
+        let mut all = [0u8; 16];
+        hex::encode_to_slice(n.to_be_bytes(), &mut all).unwrap();
+        self.put(&all);
     }
 }
 
-// A float's bits; those of a NaN are 0x7ff8000000000000.
+// A float's bits; those of a NaN are 0x7ff8000000000000. The library's `to_bits` asks that it is no NaN (d).
 pub fn bits_of(x: f64) -> u64
     ensures { result ≡ to_bits binary64 x }
 {
     if x.is_nan() {
-        9221120237041090560
+        0x7ff8_0000_0000_0000
     } else {
         x.to_bits()
     }

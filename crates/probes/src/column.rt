@@ -5,7 +5,7 @@ ghost use Rattle.probes.specs.Columns.{column_answer};
 use angles::plane;
 use trig::num::Num;
 
-// The column of so many mm east, or the row of so many mm north; 65,535, C's word for none, where they are past the grid.
+// The column of so many mm east, or the row of so many mm north; 65,535, C's word for none (a), where they are past the grid.
 #[tactic(auto, unfolding(crate::specs::Columns::column_answer, angles::specs::Plane::near))]
 pub fn probe_column(mm: i64) -> u32
     ensures { result ≡ column_answer mm }

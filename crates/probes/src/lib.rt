@@ -9,7 +9,7 @@ use sites::Site;
 pub mod column;
 pub mod row;
 
-// 1 where the two are one place, 0 where not, 4 for a "no" to question 4: numbers, since C reads them.
+// 1 where the two are one place, 0 where not, 4 for a "no" to question 4: numbers, since C reads them (a).
 #[tactic(auto, unfolding(crate::specs::Probes::same_answer, sites::specs::Sites::same_place))]
 pub fn probe_same_place(lat1: f64, lon1: f64, lat2: f64, lon2: f64) -> u8
     ensures { result ≡ same_answer lat1 lon1 lat2 lon2 }

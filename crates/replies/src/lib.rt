@@ -12,7 +12,7 @@ use near_field::Judgment;
 use scans::Key;
 use verdicts::CheckState;
 
-// A key of four words.
+// A key of four words. No `From`: neither type is of this crate (d).
 pub fn key_by(key: &[u64; 4]) -> Key
     ensures { result.bytes ≡ key_of key.now }
 {
@@ -21,7 +21,7 @@ pub fn key_by(key: &[u64; 4]) -> Key
     }
 }
 
-// What an answer is, its value, a distance and the evidence; it has no key.
+// What an answer is, its value, a distance and the evidence; it has no key. What it is comes as siting.h's number, since `siting` puts its own by this (a).
 pub fn put(answer: &mut [u64; 9], what: u64, value: u64, off: u64, by: u64)
     ensures { answer.new ≡ plain what value off by }
 {

@@ -6,10 +6,9 @@ use lib.Ieee.{Float, nan, inf, fin, binary64, up, down, size, odd, units, fits, 
 use lib.Ieee.Fits.{odd-fits, down_pos}
 use lib.Ieee.Bits.{of_bits-to_bits, is_true}
 use lib.Ieee.Exact.{HasValue, units_val}
-use Rattle.root.specs.Root.{isqrt, root_units}
+use Rattle.root.specs.Root.{isqrt, nearest54, root_units}
 use Rattle.root.proofs.Newton.{sq_le, root_lt}
 use Rattle.root.proofs.Whole.{isqrt_is, isqrt_unique, four_pow, bit_pow, twice_at_most, once_at_least, size_shifted}
-use Rattle.root.proofs.Guessed.{nearest}
 
 -- ---- the bits of a value of 53 digits with j zeros after them, in units of the smallest value
 
@@ -104,7 +103,7 @@ module _ (u n k r : ℕ) (lo : 2 ^ 52 ≤ n) (hi : n < 2 ^ 53) (same : n * 2 ^ k
   pattern_is kh rh = sym (root_is ∙ pattern ((r + 1) / 2) (k / 2 + 485) (omega (arith, r_low)) (omega arith) (omega arith))
 
 -- the pattern that the program makes, from the nearest whole number c that it finds
-pub pattern_of : (u n k c : ℕ) → 2 ^ 52 ≤ n → n < 2 ^ 53 → n * 2 ^ k ≡ u * 2 ^ 52 → k ≤ 2097 → c ≡ nearest (n * (k % 2 + 1)) → of_bits binary64 ((k / 2 + 485) * 2 ^ 52 + c) ≡ root_units u
+pub pattern_of : (u n k c : ℕ) → 2 ^ 52 ≤ n → n < 2 ^ 53 → n * 2 ^ k ≡ u * 2 ^ 52 → k ≤ 2097 → c ≡ nearest54 (n * (k % 2 + 1)) → of_bits binary64 ((k / 2 + 485) * 2 ^ 52 + c) ≡ root_units u
 pattern_of u n k c lo hi same kh e =
     let p = n * (k % 2 + 1) in
     let w = isqrt_is (p * 2 ^ 54) in

@@ -15,6 +15,10 @@ isqrt (suc n) = cond (nat_le ((isqrt n + 1) * (isqrt n + 1)) (suc n)) (isqrt n +
 abbrev pub nearest_root : ℕ → ℕ → ℕ
 nearest_root n k = (isqrt (4 * n / 4 ^ k) + 1) / 2
 
+-- of a value's digits p, 53 or 54: the whole number nearest to √(p * 2 ^ 52), the 53 digits of the root; half of √(p * 2 ^ 54), rounded half up
+abbrev pub nearest54 : ℕ → ℕ
+nearest54 p = (isqrt (p * 2 ^ 54) + 1) / 2
+
 -- The root of u smallest values, 2 ^ -1074 each. It is √n smallest values, for n = u * 2 ^ 1074.
 -- √n has half as many digits as n, rounded up, before the point: 53 of them are kept, and k dropped.
 unfoldable pub root_units : ℕ → Float

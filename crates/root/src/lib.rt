@@ -5,7 +5,7 @@
 ghost use Rattle.std.specs.Prelude.{◌≡◌, ℕ, ◌+◌, ◌*◌, ◌/◌, ◌%◌, ◌^◌, ◌<◌, ◌≤◌, true, T, IfSome};
 ghost use Rattle.std.specs.Float.Ieee as Ieee;
 ghost use Rattle.std.specs.Float.{binary64};
-ghost use Rattle.root.specs.Root.{isqrt, root_units, root, plus_zero};
+ghost use Rattle.root.specs.Root.{nearest54, root_units, root};
 
 // The implied digit of a normal value: the lowest place of the exponent's field.
 const IMPLIED: u64 = 1 << 52;
@@ -42,7 +42,7 @@ fn root54(p: Significand) -> u64
 // The whole number nearest to the root of p * 2 ^ 52, which half of the root of p * 2 ^ 54 is, rounded up.
 #[tactic(auto, using(crate::proofs::Guessed::nearest_of_lem))]
 fn nearest54(p: Significand) -> u64
-    ensures { result ≡ (isqrt (p.n * 2 ^ 54) + 1) / 2 }
+    ensures { result ≡ nearest54 p.n }
 {
     (root54(p) + 1) / 2
 }
@@ -62,7 +62,7 @@ fn mantissa(g: f64) -> Option<u64>
 // (w - 2 * s) * 2 ^ 26 - t * t for the w below. The nearest is q where -q < d <= q, and one more or one less where d is past that, but
 // not by 2 * q: a w below 5 * s sees to it. A wrapped difference is large, so each test passes only a true one.
 fn nearest_by(p: Significand, g: f64) -> Option<u64>
-    ensures { IfSome result (λ n. n ≡ (isqrt (p.n * 2 ^ 54) + 1) / 2) }
+    ensures { IfSome result (λ n. n ≡ nearest54 p.n) }
 {
     let q = mantissa(g)?;
     let s = q / (1 << 26);
@@ -112,7 +112,7 @@ fn digits(b: Normal) -> Significand
 
 // The root of the value with the pattern b, normal and above zero, from the whole number n nearest to the root of its digits.
 fn root_at(b: Normal, n: u64) -> f64
-    requires { n ≡ (isqrt ((b.bits % 2 ^ 52 + 2 ^ 52) * ((b.bits / 2 ^ 52 + 51) % 2 + 1) * 2 ^ 54) + 1) / 2 }
+    requires { n ≡ nearest54 ((b.bits % 2 ^ 52 + 2 ^ 52) * ((b.bits / 2 ^ 52 + 51) % 2 + 1)) }
     ensures { result ≡ root (Ieee.of_bits binary64 b.bits) }
 {
     f64::from_bits((b.bits / IMPLIED + 1021) / 2 * IMPLIED + n)

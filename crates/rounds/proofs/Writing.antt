@@ -1,5 +1,5 @@
 -- A tick's answer, put part by part. Facts on lists alone; the laws of parts are crate `answers`'s.
-use mathlib.Core.Path.{◌≡◌, refl, sym, ap, ◌∙◌, subst}
+use mathlib.Core.Path.{◌≡◌, refl, sym, ap, ◌∙◌}
 use Prim.Native.Nat.{ℕ, zero, suc, ◌+◌, ◌*◌, ◌≤◌}
 use native.Mathlib.Numerals.{add-one}
 use native.Mathlib.Omega.{arith}
@@ -7,7 +7,6 @@ use lib.Dec.{leb, ltb}
 use Rattle.fields.proofs.Lines.{tail}
 use mathlib.Core.List.{List, ◌∷◌}
 use lib.ListN.{length, take, drop, replicate, drop_of_length-le}
-use lib.Seq.{length-take-le}
 use borrow.Author.Tests.{ltb-true, leb-false, le-leb}
 use Rattle.fields.specs.Text.{spell, part_of}
 use Rattle.table.specs.Rows.{Watch}
@@ -15,31 +14,16 @@ use Rattle.table.proofs.Tests.{by_bool}
 use Rattle.receiver.specs.declared.Part.{Part}
 use Rattle.print.specs.declared.Text.{Text}
 use Rattle.print.specs.Print.{decimal_text}
-use Rattle.flat.specs.Words.{words_of_row}
-use Rattle.flat.proofs.Rows.{starts_at}
-use Rattle.rows.specs.Read.{form, watch_is}
-use Rattle.flat.specs.Table.{rows_of}
+use Rattle.rows.specs.Read.{form}
 use Rattle.turns.specs.declared.Turned.{Turned}
 use Rattle.std.specs.Prelude.{Result, Ok}
 use Rattle.table.specs.declared.Refusal.{Refusal}
 use Rattle.turns.specs.Turn.{turn_on}
-use Rattle.lending.specs.Lendings.{Within, lent_to}
-use Rattle.lending.specs.declared.Size.{Size}
 use Rattle.answers.specs.Words.{◌then◌}
-use Rattle.answers.specs.Answers.{key_text, Adds}
+use Rattle.answers.specs.Answers.{key_text}
+use Rattle.print.specs.Print.{Adds}
 use Rattle.answers.proofs.Writing.{adds_none, adds_then, adds_both, adds_is}
 use Rattle.rounds.specs.Rounds.{keys_text, turned_text, tick_text, served, turn_text}
-
--- THE ROWS that are lent
-pub rows_front : (z : Size) (xs ys : List ℕ) (a : ℕ) → Within z xs ys → a ≡ words_of_row * z.rows → length (take a xs) ≡ a
-rows_front z xs ys a h e = length-take-le a xs (subst (λ (n : ℕ). n ≤ length xs) (starts_at z.rows ∙ sym e) h.0)
-
--- THE TICK on the first rows and cells of those that are lent
-pub ticked : (z : Size) (xs ys ws list list₁ : List ℕ) (a next k : ℕ) (t : Result Turned Refusal) → a ≡ words_of_row * z.rows
-    → record { answer = t; list = list₁ } ≡ turn_on form (watch_is (rows_of (take a xs)) (take z.cells ys) ws) next k list
-    → record { answer = t; list = list₁ } ≡ turn_on form (lent_to z xs ys ws) next k list
-ticked z xs ys ws list list₁ a next k t ea e =
-    e ∙ ap (λ (i : ℕ). turn_on form (watch_is (rows_of (take i xs)) (take z.cells ys) ws) next k list) (ea ∙ sym (starts_at z.rows))
 
 -- KEYS
 -- what is left of a list from a place on, past its end too

@@ -5,11 +5,10 @@ ghost use Rattle.std.specs.Prelude.{◌≡◌, ◌*◌, Ok};
 ghost use Rattle.rows.specs.Read.{form};
 ghost use Rattle.turns.specs.Turn.{turn_on};
 ghost use Rattle.lending.specs.Lendings.{lent_to};
-ghost use Rattle.print.specs.Print.{SameBuffer};
-ghost use Rattle.answers.specs.Answers.{Adds};
+ghost use Rattle.print.specs.Print.{SameBuffer, Adds};
 ghost use Rattle.rounds.specs.Rounds.{keys_text, turned_text, served, turn_text, line_text};
 
-use answers::put::{put_key, put_no, put_number, put_word};
+use answers::put::{put_key, put_no, put_number};
 use grammar::Line;
 use lending::Watch;
 use print::Text;
@@ -21,30 +20,26 @@ use turns::Turned;
 fn list_bytes(room: u32) -> usize
     ensures { result ≡ 32 * served room }
 {
-    if room < 64 {
-        return 32 * (room as usize);
-    }
-    2048
+    32 * (room.min(64) as usize)
 }
 
 // A tick's words come one by one, as `turns` takes them from C (a).
 fn tick(w: &Watch<'_>, next: u32, k: u32, list: &mut [u8]) -> Result<Turned, Refusal>
     ensures { record { answer = result; list = list.new } ≡ turn_on form (lent_to w.now.size w.now.rows.now w.now.cells.now w.now.ends.now) next k list.old }
 {
-    let a = flat::start_of(w.size.rows);
-    let m = w.size.cells as usize;
-    turns::turn(&w.rows[..a], &w.cells[..m], w.ends, next, k, list)
+    turns::turn(w.rows_in_use(), w.cells_in_use(), w.ends, next, k, list)
 }
 
 // ---- its answer
 
-// The first keys of a list, which is lent with more room than a tick fills (a). Here and below a text and what is put into it stay two (d).
+// The first keys of a list, which is lent with more room than a tick fills (a). The last key may be cut short, and `put_key` puts 0 for what is missing: arrays of 32 would drop it (d).
+// Here and below a text and what is put into it stay two (d).
 #[tactic(auto, using(crate::proofs::Writing::keys_none, crate::proofs::Writing::keys_on))]
 fn put_keys(to: &mut Text<'_>, list: &[u8], count: u32)
     ensures { Adds to.old (keys_text count list.now) to.new }
 {
     for i in 0..count {
-        put_word(to, b" ");
+        to.put(b" ");
         put_key(to, fields::part(list, 32 * (i as usize), list.len()));
     }
 }
@@ -56,7 +51,7 @@ fn put_named(to: &mut Text<'_>, list: &[u8], t: Turned)
     put_number(to, b"ok ", u64::from(t.count));
     put_number(to, b" ", u64::from(t.next));
     put_keys(to, list, t.count);
-    put_word(to, b"\n");
+    to.put(b"\n");
 }
 
 // Each arm puts what its case holds (d).
@@ -82,7 +77,7 @@ fn put_turn(w: &Watch<'_>, next: u32, k: u32, room: u32, to: &mut Text<'_>)
     put_turned(to, list, t);
 }
 
-// Puts the answer to a tick, and nothing for any other line.
+// Puts the answer to a tick, and nothing for any other line: these are named, so that a new line is asked for here (d).
 #[tactic(auto, using(answers::proofs::Writing::adds_none, answers::proofs::Writing::adds_there))]
 pub fn put_line(w: &Watch<'_>, asked: Line, to: &mut Text<'_>)
     ensures buffer { SameBuffer to.old to.new }

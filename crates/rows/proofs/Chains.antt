@@ -20,11 +20,11 @@ use Rattle.receiver.specs.declared.Part.{Part}
 use Rattle.heard.specs.Heard.{width, empty_cells}
 use Rattle.receiver.specs.Calls.{unmade_part}
 use Rattle.rows.specs.declared.Row.{Row}
-use Rattle.rows.specs.Read.{form, row_is, ends_of, watch_of}
+use Rattle.rows.specs.Read.{form, row_is, watch_of}
 use Rattle.rows.specs.Links.{blank, unmade, with_next, with_prev, with_links, nexted, preved, before, after, unlinked_rows, unlinked_ends, linked_rows, released_rows, released_ends, touched_rows, touched_ends, room_rows, room_ends, taken_rows, taken_ends, made_row}
 use Rattle.scans.specs.declared.Ends.{Ends}
 use Rattle.scans.specs.declared.Key.{Key}
-use Rattle.scans.specs.Ends.{linked_ends, with_free}
+use Rattle.scans.specs.Ends.{ends_of, linked_ends, with_free}
 
 abbrev pub chain_is : List Row → Ends → Chain Part
 chain_is xs e = record { rows = map row_is xs; ends = ends_of e }

@@ -1,5 +1,5 @@
 -- The lent rows, cells and ends, read as the watch of 01, 'Seven calls, seven questions'; and what a look at them tells. Definitions only.
-use Rattle.std.specs.Prelude.{◌≡◌, ℕ, Bool, cond, List, map, length, get_or, Result, Err}
+use Rattle.std.specs.Prelude.{◌≡◌, ℕ, Bool, cond, List, map, length, Result, Err}
 use Rattle.table.specs.Machine as M
 use Rattle.table.specs.Rows as T
 use Rattle.table.specs.Rows.{Watch, Form}
@@ -9,6 +9,7 @@ use Rattle.receiver.specs.Calls.{siting, unmade_part}
 use Rattle.scans.specs.declared.Key.{Key}
 use Rattle.rows.specs.declared.Row.{Row}
 use Rattle.scans.specs.declared.Ends.{Ends}
+use Rattle.scans.specs.Ends.{ends_of, ends_is}
 use Rattle.scans.specs.Scan.{row_or_no}
 use Rattle.table.specs.declared.Refusal.{Refusal}
 use Rattle.table.specs.declared.Refusal.TheVariants as R
@@ -23,13 +24,6 @@ fits p = form.sound p
 
 abbrev pub row_is : Row → T.Row Part
 row_is r = record { key = r.key; part = r.part; prev = r.prev; next = r.next }
-
-abbrev pub ends_of : Ends → T.Ends
-ends_of e = record { head = e.head; tail = e.tail; free = e.free }
-
--- three row numbers or none: first and last used, first free
-abbrev pub ends_is : List ℕ → T.Ends
-ends_is ws = record { head = get_or ws 0 0; tail = get_or ws 1 0; free = get_or ws 2 0 }
 
 abbrev pub watch_of : List Row → List ℕ → Ends → Watch Part
 watch_of xs ys e = record { rows = map row_is xs; cells = ys; ends = ends_of e }

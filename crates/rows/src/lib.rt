@@ -1,17 +1,16 @@
 // The rows of a lent watch in their order of use: a chain of used rows, the least recently used first, and a chain of free rows. Here are
-// the row and the steps on it, by value; crate `scans` has the chains' ends, crates `records` and `chains` read rows from what is lent and store them there.
+// the row and the steps on it, by value; crate `scans` has the chains' ends, and crate `chains` reads rows from what is lent and stores them there.
 #![tactic(auto)]
 
 ghost use Rattle.std.specs.Prelude.{◌≡◌};
-ghost use Rattle.rows.specs.Read.{fits, ends_of, ends_is};
+ghost use Rattle.rows.specs.Read.{fits};
 ghost use Rattle.rows.specs.Links.{blank, unmade, made_row, kept_seat, made_seat, fresh_of};
-ghost use Rattle.rows.specs.Search.{sizes_of, step_of};
+ghost use Rattle.rows.specs.Search.{sizes_of};
 
 use heard::Heard;
 use receiver::Part;
-use scans::{Cursor, Ends, Key, back_fits, is_none, no_row};
+use scans::{Ends, Key, Links, is_none, no_row};
 use sites::Site;
-use verdicts::Verdict;
 
 // Links are row numbers, or none (the largest u32), as they are lent (a): the rows before and after in the used chain; a free row's `next` is the free chain's.
 #[derive(Clone, Copy)]
@@ -22,6 +21,7 @@ pub struct Row {
     pub next: u32,
 }
 
+// 01 names the constant among its forms (a): so `heard::unheard()`, which is no constant, cannot stand in it.
 impl Row {
     pub const UNMADE: Row = Row {
         key: [0u8; 32],
@@ -38,6 +38,17 @@ impl Row {
         prev: 4294967295,
         next: 4294967295,
     };
+}
+
+impl From<Row> for Links {
+    ghost from_gives = { λ row links. links ≡ record { prev = row.prev; next = row.next } };
+
+    fn from(row: Row) -> Links {
+        Links {
+            prev: row.prev,
+            next: row.next,
+        }
+    }
 }
 
 // Question 1: n rows with m cells.
@@ -77,27 +88,10 @@ pub fn made_row(old: Row, key: Key, part: Part) -> Row
     }
 }
 
-// ---- the ends, as they are lent: `Ends` is of crate `scans`, so that no `From` can stand here (d)
-
-pub fn ends_of(ends: &[u32; 3]) -> Ends
-    ensures { ends_of result ≡ ends_is ends.now }
-{
-    Ends {
-        head: ends[0],
-        tail: ends[1],
-        free: ends[2],
-    }
-}
-
-pub fn keep(ends: &mut [u32; 3], e: Ends)
-    ensures { ends_is ends.new ≡ ends_of e }
-{
-    *ends = [e.head, e.tail, e.free];
-}
-
 // ---- a claim's row
 
-// The ends after a claim, its row's number, whether the row was made for it, and the key that it pushed out, if any.
+// The ends after a claim, its row's number, whether the row was made for it, and the key that it pushed out, if any. Not an enum of kept and made: a claim asks
+// only whether to empty cells, and answers what was pushed (d).
 #[derive(Clone, Copy)]
 pub struct Seat {
     pub ends: Ends,
@@ -136,24 +130,6 @@ pub fn part_fits(part: Part) -> bool
     ensures { result ≡ fits part }
 {
     heard::fits(part.heard.site) && verdicts::fits(part.verdict)
-}
-
-pub fn step(s: Cursor, row: Row) -> Cursor
-    ensures { result ≡ step_of s row }
-{
-    if s.left == 0 {
-        return s;
-    }
-    let key = s.key;
-    Cursor {
-        at: row.next,
-        prev: s.at,
-        left: s.left - 1,
-        fits: back_fits(s.back, row.prev, s.prev),
-        sound: s.sound && part_fits(row.part),
-        found: s.found.or((key == row.key).then_some(s.at)),
-        ..s
-    }
 }
 
 // ---- fresh rows

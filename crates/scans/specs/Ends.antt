@@ -1,11 +1,19 @@
--- What the steps on links come to on the ends of the chains. Definitions only; `rows/proofs/Chains` shows them to be the steps of crate `table`.
-use Rattle.std.specs.Prelude.{ℕ, cond, eqb}
+-- The ends of the chains: how they are lent, and what the steps on links come to on them. Definitions only; `rows/proofs/Chains` shows these to be the steps of crate `table`.
+use Rattle.std.specs.Prelude.{ℕ, cond, List, eqb, get_or}
+use Rattle.table.specs.Rows as T
 use Rattle.table.specs.Rows.{NONE, zero_key}
 use Rattle.scans.specs.declared.Key.{Key}
 use Rattle.scans.specs.declared.Ends.{Ends}
 
 abbrev pub no_key : Key
 no_key = record { bytes = zero_key }
+
+abbrev pub ends_of : Ends → T.Ends
+ends_of e = record { head = e.head; tail = e.tail; free = e.free }
+
+-- three row numbers or none: first and last used, first free
+abbrev pub ends_is : List ℕ → T.Ends
+ends_is ws = record { head = get_or ws 0 0; tail = get_or ws 1 0; free = get_or ws 2 0 }
 
 abbrev pub out_ends : Ends → ℕ → ℕ → Ends
 out_ends e p n = record { head = cond (eqb p NONE) n e.head; tail = cond (eqb n NONE) p e.tail; free = e.free }

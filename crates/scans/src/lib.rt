@@ -3,11 +3,12 @@
 
 ghost use Rattle.std.specs.Prelude.{◌≡◌, true, false, cond, ◌-◌, eqb};
 ghost use Rattle.table.specs.Rows.{NONE};
-ghost use Rattle.scans.specs.Ends.{no_key, out_ends, linked_ends, with_free, fresh_ends};
+ghost use Rattle.scans.specs.Ends.{no_key, ends_of, ends_is, out_ends, linked_ends, with_free, fresh_ends};
 ghost use Rattle.scans.specs.Scan.{back_fits, more_of, start_of, came_through, chains_of, look_of, claimable};
 
 use table::Refusal;
 
+// The key that a call is of. A row holds the 32 bytes themselves, as it is lent (a).
 #[derive(Clone, Copy)]
 pub struct Key {
     pub bytes: [u8; 32],
@@ -26,6 +27,34 @@ pub struct Ends {
     pub head: u32,
     pub tail: u32,
     pub free: u32,
+}
+
+// As they are lent: three numbers, in this order.
+impl From<[u32; 3]> for Ends {
+    ghost from_gives = { λ lent e. ends_of e ≡ ends_is lent };
+
+    fn from(lent: [u32; 3]) -> Ends {
+        Ends {
+            head: lent[0],
+            tail: lent[1],
+            free: lent[2],
+        }
+    }
+}
+
+impl From<Ends> for [u32; 3] {
+    ghost from_gives = { λ e lent. ends_is lent ≡ ends_of e };
+
+    fn from(e: Ends) -> [u32; 3] {
+        [e.head, e.tail, e.free]
+    }
+}
+
+// A row's links, here and above as they are lent: row numbers, none the largest u32 (a).
+#[derive(Clone, Copy)]
+pub struct Links {
+    pub prev: u32,
+    pub next: u32,
 }
 
 // ---- numbers of rows: none is the largest u32 here and above, as in the words that are lent and in the Rust (a)
@@ -53,12 +82,13 @@ fn pick(a: u32, x: u32, y: u32) -> u32
     if is_none(a) { x } else { y }
 }
 
-pub fn out_ends(e: Ends, p: u32, n: u32) -> Ends
-    ensures { result ≡ out_ends e p n }
+// Without the row that has these links.
+pub fn out_ends(e: Ends, out: Links) -> Ends
+    ensures { result ≡ out_ends e out.prev out.next }
 {
     Ends {
-        head: pick(p, n, e.head),
-        tail: pick(n, p, e.tail),
+        head: pick(out.prev, out.next, e.head),
+        tail: pick(out.next, out.prev, e.tail),
         ..e
     }
 }

@@ -1,5 +1,5 @@
 -- What a line is answered, as a value. Definitions only.
-use Rattle.std.specs.Prelude.{ℕ, ◌&&◌, cond, Float, None, Err}
+use Rattle.std.specs.Prelude.{ℕ, ◌&&◌, cond, Float, Option, Some, None, Err}
 use Rattle.std.specs.Int.Count.{count_trailing_zeros}
 use Rattle.cells.specs.Cells.{bucket_of, aircraft_bit}
 use Rattle.floats.specs.Horizon.{horizon}
@@ -23,14 +23,14 @@ unfoldable pub bit_of : ℕ → ℕ
 bit_of address = count_trailing_zeros 16 (aircraft_bit address)
 
 -- a line of the watch gets no answer here, nor does a tick (crate `rounds` has it)
-abbrev pub reply_of : Line → Reply
-reply_of (line.Place a b c d) = reply.Place (placing a b c d)
-reply_of (line.Same a b c d) = same_of (site_of a b) (site_of c d)
-reply_of (line.Horizon a b) = reply.Horizon (horizon a b)
-reply_of (line.Bucket feet) = reply.Bucket (bucket_of feet)
-reply_of (line.Bit address) = reply.Bit (bit_of address)
-reply_of (line.Watch c) = reply.Nothing
-reply_of (line.Call c) = reply.Nothing
-reply_of (line.Turn n k m) = reply.Nothing
-reply_of line.Digest = reply.Nothing
-reply_of (line.Change m) = reply.Nothing
+abbrev pub reply_of : Line → Option Reply
+reply_of (line.Place a b c d) = Some (reply.Place (placing a b c d))
+reply_of (line.Same a b c d) = Some (same_of (site_of a b) (site_of c d))
+reply_of (line.Horizon a b) = Some (reply.Horizon (horizon a b))
+reply_of (line.Bucket feet) = Some (reply.Bucket (bucket_of feet))
+reply_of (line.Bit address) = Some (reply.Bit (bit_of address))
+reply_of (line.Watch c) = None
+reply_of (line.Call c) = None
+reply_of (line.Turn n k m) = None
+reply_of line.Digest = None
+reply_of (line.Change m) = None

@@ -19,7 +19,7 @@ use Rattle.lending.specs.Lendings.{lent_to, no_ends, Applied}
 use Rattle.session.specs.Replies.{reply_of}
 use Rattle.readers.specs.declared.Fault.{Fault}
 use Rattle.readers.specs.declared.Fault.TheVariants as fault
-use Rattle.answers.specs.declared.Reply.{Reply}
+use Rattle.answers.specs.Answers.{Replied}
 use Rattle.answers.specs.declared.Reply.TheVariants as reply
 
 -- the call that a line asks for, of the key that it names
@@ -45,7 +45,7 @@ abbrev pub sized_of : ℕ → Size
 sized_of c = record { rows = c; cells = 3344 * c }
 
 -- the watch stays as it is
-abbrev pub Stays : Reply → Size → List ℕ → List ℕ → List ℕ → Size → List ℕ → List ℕ → List ℕ → Reply → Type 0
+abbrev pub Stays : Replied → Size → List ℕ → List ℕ → List ℕ → Size → List ℕ → List ℕ → List ℕ → Replied → Type 0
 Stays p z xs ys ws z' xs' ys' ws' r = (r ≡ p) × (z' ≡ z) × (xs' ≡ xs) × (ys' ≡ ys) × (ws' ≡ ws)
 
 -- a fresh watch, or too many rows
@@ -57,53 +57,53 @@ unfoldable pub Opened : ℕ → List ℕ → List ℕ → List ℕ → List ℕ 
 Opened c xs ys ws xs' ys' ws' r = OpenedBy r c xs ys ws xs' ys' ws'
 
 -- a call's answer stands in the reply
-pub record Answers (c : Call) (k : M.Key) (z : Size) (xs ys ws : List ℕ) (z' : Size) (xs' ys' ws' : List ℕ) (r : Reply) : Type 0 where
+pub record Answers (c : Call) (k : M.Key) (z : Size) (xs ys ws : List ℕ) (z' : Size) (xs' ys' ws' : List ℕ) (r : Replied) : Type 0 where
   pub to : Answer
   pub called : Called z c k xs ys ws xs' ys' ws' to
-  pub told : r ≡ reply.Answered to
+  pub told : r ≡ Ok (Some (reply.Answered to))
   pub size : z' ≡ z
 
 -- watch, lend, row, cell, ends: what is written, and no answer but for what is wrong
-abbrev pub reply_for : {A : Type 0} → Result A Fault → Reply
-reply_for (Ok a) = reply.Nothing
-reply_for (Err f) = reply.Wrong f
+abbrev pub reply_for : {A : Type 0} → Result A Fault → Replied
+reply_for (Ok a) = Ok None
+reply_for (Err f) = Err f
 
 abbrev pub size_for : Result Answer Fault → ℕ → Size → Size
 size_for (Ok a) c z = sized_of c
 size_for (Err f) c z = z
 
-pub record Watched (c : ℕ) (z : Size) (xs ys ws : List ℕ) (z' : Size) (xs' ys' ws' : List ℕ) (r : Reply) : Type 0 where
+pub record Watched (c : ℕ) (z : Size) (xs ys ws : List ℕ) (z' : Size) (xs' ys' ws' : List ℕ) (r : Replied) : Type 0 where
   pub to : Result Answer Fault
   pub is : Opened c xs ys ws xs' ys' ws' to
   pub told : r ≡ reply_for to
   pub size : z' ≡ size_for to c z
 
-pub record Written (m : Change) (k : M.Key) (z : Size) (xs ys ws : List ℕ) (z' : Size) (xs' ys' ws' : List ℕ) (r : Reply) : Type 0 where
+pub record Written (m : Change) (k : M.Key) (z : Size) (xs ys ws : List ℕ) (z' : Size) (xs' ys' ws' : List ℕ) (r : Replied) : Type 0 where
   pub to : Result (Unit {0}) Fault
   pub is : Applied m k z xs ys ws z' xs' ys' ws' to
   pub told : r ≡ reply_for to
 
 -- by what a line asks of the watch
-abbrev pub RanBy : Line → M.Key → Size → List ℕ → List ℕ → List ℕ → Size → List ℕ → List ℕ → List ℕ → Reply → Type 0
+abbrev pub RanBy : Line → M.Key → Size → List ℕ → List ℕ → List ℕ → Size → List ℕ → List ℕ → List ℕ → Replied → Type 0
 RanBy (line.Call c) k z xs ys ws z' xs' ys' ws' r = Answers c k z xs ys ws z' xs' ys' ws' r
 RanBy (line.Watch c) k z xs ys ws z' xs' ys' ws' r = Watched c z xs ys ws z' xs' ys' ws' r
-RanBy line.Digest k z xs ys ws z' xs' ys' ws' r = Stays (reply.Digest (digest_of (lent_to z xs ys ws))) z xs ys ws z' xs' ys' ws' r
+RanBy line.Digest k z xs ys ws z' xs' ys' ws' r = Stays (Ok (Some (reply.Digest (digest_of (lent_to z xs ys ws))))) z xs ys ws z' xs' ys' ws' r
 RanBy (line.Change m) k z xs ys ws z' xs' ys' ws' r = Written m k z xs ys ws z' xs' ys' ws' r
-RanBy (line.Place a b c d) k z xs ys ws z' xs' ys' ws' r = Stays (reply_of (line.Place a b c d)) z xs ys ws z' xs' ys' ws' r
-RanBy (line.Same a b c d) k z xs ys ws z' xs' ys' ws' r = Stays (reply_of (line.Same a b c d)) z xs ys ws z' xs' ys' ws' r
-RanBy (line.Horizon a b) k z xs ys ws z' xs' ys' ws' r = Stays (reply_of (line.Horizon a b)) z xs ys ws z' xs' ys' ws' r
-RanBy (line.Bucket f) k z xs ys ws z' xs' ys' ws' r = Stays (reply_of (line.Bucket f)) z xs ys ws z' xs' ys' ws' r
-RanBy (line.Bit a) k z xs ys ws z' xs' ys' ws' r = Stays (reply_of (line.Bit a)) z xs ys ws z' xs' ys' ws' r
-RanBy (line.Turn n t m) k z xs ys ws z' xs' ys' ws' r = Stays (reply_of (line.Turn n t m)) z xs ys ws z' xs' ys' ws' r
+RanBy (line.Place a b c d) k z xs ys ws z' xs' ys' ws' r = Stays (Ok (reply_of (line.Place a b c d))) z xs ys ws z' xs' ys' ws' r
+RanBy (line.Same a b c d) k z xs ys ws z' xs' ys' ws' r = Stays (Ok (reply_of (line.Same a b c d))) z xs ys ws z' xs' ys' ws' r
+RanBy (line.Horizon a b) k z xs ys ws z' xs' ys' ws' r = Stays (Ok (reply_of (line.Horizon a b))) z xs ys ws z' xs' ys' ws' r
+RanBy (line.Bucket f) k z xs ys ws z' xs' ys' ws' r = Stays (Ok (reply_of (line.Bucket f))) z xs ys ws z' xs' ys' ws' r
+RanBy (line.Bit a) k z xs ys ws z' xs' ys' ws' r = Stays (Ok (reply_of (line.Bit a))) z xs ys ws z' xs' ys' ws' r
+RanBy (line.Turn n t m) k z xs ys ws z' xs' ys' ws' r = Stays (Ok (reply_of (line.Turn n t m))) z xs ys ws z' xs' ys' ws' r
 
-unfoldable pub Ran : Line → M.Key → Size → List ℕ → List ℕ → List ℕ → Size → List ℕ → List ℕ → List ℕ → Reply → Type 0
+unfoldable pub Ran : Line → M.Key → Size → List ℕ → List ℕ → List ℕ → Size → List ℕ → List ℕ → List ℕ → Replied → Type 0
 Ran l k z xs ys ws z' xs' ys' ws' r = RanBy l k z xs ys ws z' xs' ys' ws' r
 
 -- what was read of a line: nothing to do, or something wrong, leaves the watch as it is
-abbrev pub HeardBy : Result (Option Said) Fault → Size → List ℕ → List ℕ → List ℕ → Size → List ℕ → List ℕ → List ℕ → Reply → Type 0
+abbrev pub HeardBy : Result (Option Said) Fault → Size → List ℕ → List ℕ → List ℕ → Size → List ℕ → List ℕ → List ℕ → Replied → Type 0
 HeardBy (Ok (Some s)) z xs ys ws z' xs' ys' ws' r = Ran s.line s.key z xs ys ws z' xs' ys' ws' r
-HeardBy (Ok None) z xs ys ws z' xs' ys' ws' r = Stays reply.Nothing z xs ys ws z' xs' ys' ws' r
-HeardBy (Err f) z xs ys ws z' xs' ys' ws' r = Stays (reply.Wrong f) z xs ys ws z' xs' ys' ws' r
+HeardBy (Ok None) z xs ys ws z' xs' ys' ws' r = Stays (Ok None) z xs ys ws z' xs' ys' ws' r
+HeardBy (Err f) z xs ys ws z' xs' ys' ws' r = Stays (Err f) z xs ys ws z' xs' ys' ws' r
 
-unfoldable pub Heard : Result (Option Said) Fault → Size → List ℕ → List ℕ → List ℕ → Size → List ℕ → List ℕ → List ℕ → Reply → Type 0
+unfoldable pub Heard : Result (Option Said) Fault → Size → List ℕ → List ℕ → List ℕ → Size → List ℕ → List ℕ → List ℕ → Replied → Type 0
 Heard a z xs ys ws z' xs' ys' ws' r = HeardBy a z xs ys ws z' xs' ys' ws' r

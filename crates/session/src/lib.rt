@@ -4,9 +4,9 @@
 mod run;
 pub mod single;
 
-ghost use Rattle.std.specs.Prelude.{◌≡◌, ◌≤◌};
+ghost use Rattle.std.specs.Prelude.{◌≡◌, ◌≤◌, length};
 ghost use Rattle.lending.specs.Lendings.{Room};
-ghost use Rattle.session.specs.Watches.{sized_of, Opened, Watched, Answers, reply_for, Written, Ran, Heard};
+ghost use Rattle.session.specs.Watches.{sized_of, Opened, size_for, Watched, Written, Ran, Heard};
 
 use answers::Reply;
 use grammar::{Call, Change, Line, Said};
@@ -25,103 +25,74 @@ pub fn sized(c: u32) -> Size
     }
 }
 
-// A fresh watch of C rows; an error leaves all as it was.
-#[tactic(auto, unfolding(crate::specs::Watches::Opened))]
-pub fn open(
-    rows: &mut [u64],
-    cells: &mut [u32],
-    ends: &mut [u32; 3],
-    c: u32,
-) -> Result<Answer, Fault>
-    requires { Room rows.old cells.old }
-    ensures { Opened c rows.old cells.old ends.old rows.new cells.new ends.new result }
+// A fresh watch of C rows; an error leaves all as it was. Clauses here, in `run` and in `calls` name each part of what is lent, before and after: 01's watch
+// is made of the first words and cells, and of what lies behind them a clause says that it stays (d).
+#[tactic(auto, using(crate::proofs::Watches::sized_within), unfolding(crate::specs::Watches::Opened))]
+pub fn open(w: &mut Watch<'_>, c: u32) -> Result<Answer, Fault>
+    requires { Room w.old.rows.now w.old.cells.now }
+    ensures opened { Opened c w.old.rows.now w.old.cells.now w.old.ends.now w.new.rows.now w.new.cells.now w.new.ends.now result }
+    ensures long { (length w.new.rows.now ≡ length w.old.rows.now) × (length w.new.cells.now ≡ length w.old.cells.now) }
+    ensures size { w.new.size ≡ size_for result c w.old.size }
 {
     if c > 64 {
         return Err(Fault::TooManyRows);
     }
-    lending::no_ends(ends);
-    Ok(run::call_in(sized(c), rows, cells, ends, Call::Fresh, scans::zero_key()))
-}
-
-// What was asked has no answer but for what is wrong.
-fn reply_for(done: Result<(), Fault>) -> Reply
-    ensures { result ≡ reply_for done }
-{
-    match done {
-        Ok(()) => Reply::Nothing,
-        Err(fault) => Reply::Wrong(fault),
-    }
+    w.size = sized(c);
+    w.no_ends();
+    Ok(run::call_in(w, Call::Fresh, scans::zero_key()))
 }
 
 // watch C: a fresh watch of C rows.
-#[tactic(auto, using(crate::proofs::Watches::opened_few, crate::proofs::Watches::opened_within))]
-pub fn watch(w: &mut Watch<'_>, c: u32) -> Reply
+pub fn watch(w: &mut Watch<'_>, c: u32) -> Result<Option<Reply>, Fault>
     requires { Room w.old.rows.now w.old.cells.now }
     ensures comes { Watched c w.old.size w.old.rows.now w.old.cells.now w.old.ends.now w.new.size w.new.rows.now w.new.cells.now w.new.ends.now result }
     ensures room { Room w.new.rows.now w.new.cells.now }
 {
-    match open(w.rows, w.cells, w.ends, c) {
-        Ok(_) => {
-            w.size = sized(c);
-            Reply::Nothing
-        }
-        Err(fault) => Reply::Wrong(fault),
-    }
-}
-
-// A call on the watch.
-fn call(w: &mut Watch<'_>, asked: Call, key: Key) -> Reply
-    requires { Room w.old.rows.now w.old.cells.now }
-    ensures comes { Answers asked key.bytes w.old.size w.old.rows.now w.old.cells.now w.old.ends.now w.new.size w.new.rows.now w.new.cells.now w.new.ends.now result }
-    ensures room { Room w.new.rows.now w.new.cells.now }
-{
-    let a = run::call_in(w.size, w.rows, w.cells, w.ends, asked, key);
-    Reply::Answered(a)
+    let _ = open(w, c)?;
+    Ok(None)
 }
 
 // A line that writes the watch.
-fn write(w: &mut Watch<'_>, asked: Change, key: Key) -> Reply
+fn write(w: &mut Watch<'_>, asked: Change, key: Key) -> Result<Option<Reply>, Fault>
     requires { Room w.old.rows.now w.old.cells.now }
     ensures comes { Written asked key.bytes w.old.size w.old.rows.now w.old.cells.now w.old.ends.now w.new.size w.new.rows.now w.new.cells.now w.new.ends.now result }
     ensures room { Room w.new.rows.now w.new.cells.now }
 {
-    reply_for(w.apply(asked, key))
+    w.apply(asked, key)?;
+    Ok(None)
 }
 
-// What a line comes to, with the key that it names. Each arm hands on what its case holds (d).
+// What a line comes to, with the key that it names. Each arm hands on what its case holds; the lines that need no watch are named, so that a new line is asked for here (d).
 #[tactic(auto, unfolding(crate::specs::Watches::Ran))]
-fn line(w: &mut Watch<'_>, asked: Line, key: Key) -> Reply
+fn line(w: &mut Watch<'_>, asked: Line, key: Key) -> Result<Option<Reply>, Fault>
     requires { Room w.old.rows.now w.old.cells.now }
     ensures comes { Ran asked key.bytes w.old.size w.old.rows.now w.old.cells.now w.old.ends.now w.new.size w.new.rows.now w.new.cells.now w.new.ends.now result }
     ensures room { Room w.new.rows.now w.new.cells.now }
 {
     match asked {
-        Line::Call(c) => call(w, c, key),
+        Line::Call(c) => Ok(Some(Reply::Answered(run::call_in(w, c, key)))),
         Line::Watch { rows } => watch(w, rows),
-        Line::Digest => Reply::Digest(w.digest()),
+        Line::Digest => Ok(Some(Reply::Digest(w.digest()))),
         Line::Change(m) => write(w, m, key),
         Line::Place { .. }
         | Line::Same { .. }
         | Line::Horizon { .. }
         | Line::Bucket(_)
         | Line::Bit { .. }
-        | Line::Turn { .. } => single::answer(asked),
+        | Line::Turn { .. } => Ok(single::answer(asked)),
     }
 }
 
 // What the bytes of a line ask for, answered; the watch stays within what is lent.
 #[tactic(auto, unfolding(crate::specs::Watches::Heard))]
-pub fn answer(w: &mut Watch<'_>, asked: Result<Option<Said>, Fault>) -> Reply
+pub fn answer(w: &mut Watch<'_>, asked: Result<Option<Said>, Fault>) -> Result<Option<Reply>, Fault>
     requires { Room w.old.rows.now w.old.cells.now }
     ensures comes { Heard asked w.old.size w.old.rows.now w.old.cells.now w.old.ends.now w.new.size w.new.rows.now w.new.cells.now w.new.ends.now result }
     ensures room { Room w.new.rows.now w.new.cells.now }
 {
-    match asked {
-        Ok(Some(said)) => {
-            let key = said.key;
-            line(w, said.line, Key { bytes: key })
-        }
-        Ok(None) => Reply::Nothing,
-        Err(fault) => Reply::Wrong(fault),
-    }
+    let Some(said) = asked? else {
+        return Ok(None);
+    };
+    let key = said.key;
+    line(w, said.line, Key { bytes: key })
 }

@@ -37,7 +37,7 @@ fn bit(address: u32) -> u32
 }
 
 // Lines of the watch get no answer here.
-pub fn answer(line: Line) -> Reply
+pub fn answer(line: Line) -> Option<Reply>
     ensures { result ≡ reply_of line }
 {
     match line {
@@ -46,18 +46,19 @@ pub fn answer(line: Line) -> Reply
             lon1,
             lat2,
             lon2,
-        } => Reply::Place(sites::place(lat1, lon1, lat2, lon2)),
+        } => Some(Reply::Place(sites::place(lat1, lon1, lat2, lon2))),
         Line::Same {
             lat1,
             lon1,
             lat2,
             lon2,
-        } => same(site(lat1, lon1), site(lat2, lon2)),
-        Line::Horizon { a, b } => Reply::Horizon(floats::horizon::horizon_km(a, b)),
-        Line::Bucket(feet) => Reply::Bucket(cells::bucket(feet)),
-        Line::Bit { address } => Reply::Bit(bit(address)),
+        } => Some(same(site(lat1, lon1), site(lat2, lon2))),
+        Line::Horizon { a, b } => Some(Reply::Horizon(floats::horizon::horizon_km(a, b))),
+        Line::Bucket(feet) => Some(Reply::Bucket(cells::bucket(feet))),
+        Line::Bit { address } => Some(Reply::Bit(bit(address))),
+        // Named, so that a new line is asked for here (d).
         Line::Watch { .. } | Line::Call(_) | Line::Turn { .. } | Line::Digest | Line::Change(_) => {
-            Reply::Nothing
+            None
         }
     }
 }

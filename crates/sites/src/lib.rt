@@ -24,7 +24,7 @@ pub fn in_degrees(s: Site) -> bool
     degrees::in_degrees(s.lat, s.lon)
 }
 
-// Two degrees as the nearest ticks.
+// Two degrees as the nearest ticks: here and below a position comes as two, as it lies flat where it is held (a).
 fn in_ticks(lat: f64, lon: f64) -> Ticks
     requires { T (in_degrees lat lon) }
     ensures { (result.lat ≡ tick_of lat) × (result.lon ≡ tick_of lon) }
@@ -35,7 +35,7 @@ fn in_ticks(lat: f64, lon: f64) -> Ticks
     }
 }
 
-// At most 1 km apart.
+// At most 1 km apart. C and a lent row may hold any site, so that it is within degrees stands in clauses, and not in `Site` (a).
 #[tactic(auto, unfolding(crate::specs::Sites::same_place))]
 pub fn same_place(a: Site, b: Site) -> bool
     requires { T (held a) × T (held b) }
@@ -60,7 +60,7 @@ pub fn place_in(s: Site, lat: f64, lon: f64) -> u16
     site::place(in_ticks(s.lat, s.lon), in_ticks(lat, lon)).number as u16
 }
 
-// The same of any four degrees: 65,535, as C has no Option (a), where they are out of range.
+// The same of any four degrees: 65,535, as siting.h and the program's answer have it (a), where they are out of range.
 #[tactic(auto, unfolding(crate::specs::Sites::placing))]
 pub fn place(site_lat: f64, site_lon: f64, lat: f64, lon: f64) -> u16
     ensures { result ≡ placing site_lat site_lon lat lon }

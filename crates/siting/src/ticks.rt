@@ -9,6 +9,7 @@ ghost use Rattle.siting.specs.Ticks.{turn_words, Ticked};
 use table::Refusal;
 use turns::Turned;
 
+// 6 and 0 are siting.h's codes (a).
 fn put_turn(answer: &mut [u64; 9], t: Result<Turned, Refusal>)
     ensures { answer.new ≡ turn_words t }
 {

@@ -19,6 +19,7 @@ pub enum Refusal {
 }
 
 impl Refusal {
+    // No `From<Refusal> for u8`: 01 calls it the question's number, and so does the code (d).
     pub fn number(self) -> u8
         ensures { result ≡ number_of self }
     {

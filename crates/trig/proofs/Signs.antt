@@ -3,7 +3,8 @@
 use mathlib.Core.Path.{◌≡◌, refl, sym, ap, ◌∙◌}
 use mathlib.Core.Bool.{Bool, true, false, not, beq, true≢false}
 use Prim.Native.Nat.{ℕ, zero, suc, ◌+◌, ◌-◌, ◌*◌, ◌/◌, ◌^◌, ◌≤◌, ◌<◌}
-use native.Mathlib.Nat.{mul-zero, zero-mul, zero-div}
+use mathlib.Core.Logic.{⊎_elim}
+use native.Mathlib.Nat.{mul-zero, zero-mul, zero-div, eq-or-lt_of_le}
 use native.Mathlib.Omega.{arith}
 use borrow.Author.Tests.{le-ltb, lt-ltb, ltb-true, ltb-false}
 use lib.Dec.{ltb}
@@ -114,13 +115,19 @@ two_signs false true m n h = rw (neg_ℤ-neg_ℤ (pos n))
 two_signs false false m n h = absurd (true≢false (sym h))
 two_signs true true m n h = absurd (true≢false (sym h))
 
--- of two sizes
-sub_by : (m n : ℕ) (b : Bool) → ltb m n ≡ b → signed b (abs_diff m n) ≡ pos m -ℤ pos n
-sub_by m n true h = let l : m < n = ltb-true m n h in ap (signed true) (omega arith) ∙ sym (sub_lt m n l)
-sub_by m n false h = let l : n ≤ m = ltb-false m n h in ap (signed false) (omega arith) ∙ sym (sub_le m n l)
+-- of one sign: it turns where the second is the larger, and zero may have either
+by_order : (b t : Bool) (m n : ℕ) → ltb m n ≡ t → signed (not (beq t b)) (abs_diff m n) ≡ signed b m -ℤ signed b n
+by_order false true m n h = let l : m < n = ltb-true m n h in ap (signed true) (omega arith) ∙ sym (plus_plus m n ∙ sub_lt m n l)
+by_order false false m n h = let l : n ≤ m = ltb-false m n h in ap (signed false) (omega arith) ∙ sym (plus_plus m n ∙ sub_le m n l)
+by_order true true m n h = let l : m < n = ltb-true m n h in ap (signed false) (omega arith) ∙ sym (minus_minus m n ∙ sub_le n m (omega arith))
+by_order true false m n h =
+    ⊎_elim
+    (λ e. ap (signed true) (omega (arith, e)) ∙ signed_minus 0 ∙ sym (minus_minus m n ∙ sub_le n m (omega (arith, e)) ∙ ap (signed false) (omega (arith, e)) ∙ signed_plus 0))
+    (λ l. ap (signed true) (omega (arith, l)) ∙ sym (minus_minus m n ∙ sub_lt n m l))
+    (eq-or-lt_of_le (ltb-false m n h))
 
-pub sub_sizes : (m n : ℕ) → signed (ltb m n) (abs_diff m n) ≡ pos m -ℤ pos n
-sub_sizes m n = sub_by m n (ltb m n) refl
+pub one_sign : (b : Bool) (m n : ℕ) → signed (not (beq (ltb m n) b)) (abs_diff m n) ≡ signed b m -ℤ signed b n
+one_sign b m n = by_order b (ltb m n) m n refl
 
 -- ---- the sign of an integer, and its size
 pub signed_of : (x : ℤ) → signed (lt_z x (pos 0)) (nat_abs x) ≡ x

@@ -1,4 +1,4 @@
--- The size of a difference of integers, and that a number of a small size fits 64 bits with a sign.
+-- The size of a difference of integers, and that a number of a small size fits 64 bits with a sign, and is read back from them.
 -- Assumes nothing.
 use mathlib.Core.Path.{◌≡◌, refl}
 use mathlib.Core.Bool.{Bool, true, false}
@@ -9,7 +9,7 @@ use lib.Dec.{ltb}
 use lib.IntN.{ℤ, pos, negsuc, neg_ℤ, nat_abs, sub_ℕ, ◌+ℤ◌, ◌-ℤ◌}
 use lib.Signed.{mag}
 use mir.Syntax.{w64}
-use mir.Val.{SFits, to_z, of_z}
+use mir.Val.{to_z, of_z}
 use mir.ValLaws.{to_z-of_z}
 
 by_test : (a b : ℕ) (t : Bool) → ltb a b ≡ t → nat_abs (sub_ℕ a b) ≤ a + b
@@ -30,16 +30,18 @@ size_neg (pos zero) = refl
 size_neg (pos (suc n)) = refl
 size_neg (negsuc n) = refl
 
-pub size_sub : (a b : ℤ) → nat_abs (a -ℤ b) ≤ nat_abs a + nat_abs b
+size_sub : (a b : ℤ) → nat_abs (a -ℤ b) ≤ nat_abs a + nat_abs b
 size_sub a b = omega (arith, size_add a (neg_ℤ b), size_neg b)
 
 mag_le : (z : ℤ) → mag z ≤ nat_abs z
 mag_le (pos n) = omega arith
 mag_le (negsuc n) = omega arith
 
-pub small_fits : (z : ℤ) → nat_abs z ≤ 2 ^ 62 → SFits w64 z
-small_fits z h = record { sfits = omega (arith, mag_le z) }
+-- ---- the machine reads a number back from its bits
 
--- what a callee is passed is read back from the bits
-pub read_less : (x y : ℤ) → SFits w64 x → SFits w64 y → to_z w64 (of_z w64 x) -ℤ to_z w64 (of_z w64 y) ≡ x -ℤ y
-read_less x y f g = rw (to_z-of_z w64 x f, to_z-of_z w64 y g)
+pub read_back : (z : ℤ) → nat_abs z ≤ 2 ^ 62 → to_z w64 (of_z w64 z) ≡ z
+read_back z h = to_z-of_z w64 z (record { sfits = omega (arith, mag_le z) })
+
+-- and so a difference of two
+pub read_less : (x y : ℤ) → nat_abs x ≤ 2 ^ 61 → nat_abs y ≤ 2 ^ 61 → to_z w64 (of_z w64 (to_z w64 (of_z w64 x) -ℤ to_z w64 (of_z w64 y))) ≡ x -ℤ y
+read_less x y f g = rw (read_back x (omega (arith, f)), read_back y (omega (arith, g))) (read_back (x -ℤ y) (omega (arith, f, g, size_sub x y)))

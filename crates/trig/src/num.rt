@@ -3,9 +3,8 @@ ghost use Rattle.std.specs.Prelude.{◌≡◌, ◌+◌, ◌≤◌, ◌<◌, ◌^
 ghost use Rattle.trig.specs.Ticks.{scaled};
 ghost use Rattle.trig.specs.Value.{value};
 
-use super::series;
 use super::series::Fraction;
-use std::ops::Sub;
+use std::ops::{Mul, Sub};
 
 // Zero may have either sign.
 #[derive(Clone, Copy)]
@@ -40,61 +39,52 @@ impl Sub for Num {
 
     ghost sub_gives = { λ a b n. (value n ≡ value a -ℤ value b) × (n.size ≤ a.size + b.size) };
 
-    #[tactic(auto, using(crate::proofs::Signs::two_signs, crate::proofs::Signs::same_sign, crate::proofs::Signs::minus_minus, crate::proofs::Signs::plus_plus))]
+    #[tactic(auto, using(crate::proofs::Signs::two_signs, crate::proofs::Signs::same_sign, crate::proofs::Signs::one_sign))]
     fn sub(self, b: Num) -> Num {
         if self.minus != b.minus {
             Num {
-                minus: self.minus,
                 size: self.size + b.size,
+                ..self
             }
-        } else if b.minus {
-            sub(b.size, self.size)
         } else {
-            sub(self.size, b.size)
+            Num {
+                minus: (self.size < b.size) != self.minus,
+                size: self.size.abs_diff(b.size),
+            }
         }
     }
 }
 
-// a − b.
-pub fn less(a: i64, b: i64) -> Num
-    requires { (nat_abs a ≤ 2 ^ 39) × (nat_abs b ≤ 2 ^ 39) }
-    ensures { (value result ≡ a -ℤ b) × (result.size ≤ nat_abs a + nat_abs b) }
-{
-    Num::from(a - b)
-}
+// By a number that is not negative, div 2^30: the sign stays.
+impl Mul<Fraction> for Num {
+    type Output = Num;
 
-// m − n.
-#[tactic(auto, using(crate::proofs::Signs::sub_sizes))]
-pub fn sub(m: u64, n: u64) -> Num
-    requires { (m ≤ 2 ^ 40) × (n ≤ 2 ^ 40) }
-    ensures { (value result ≡ pos m -ℤ pos n) × (result.size ≤ m + n) }
-{
-    Num {
-        minus: m < n,
-        size: m.abs_diff(n),
+    ghost can_mul = { λ a c. a.size ≤ 2 ^ 32 };
+
+    ghost mul_gives = { λ a c n. (value n ≡ scaled (value a) (pos c.n)) × (n.size ≤ a.size) };
+
+    #[tactic(auto, using(crate::proofs::Signs::scaled_pos))]
+    fn mul(self, c: Fraction) -> Num {
+        Num {
+            size: self.size * c,
+            ..self
+        }
     }
 }
 
-// a × c div 2^30, for a c that is not negative.
-#[tactic(auto, using(crate::proofs::Signs::scaled_pos))]
-pub fn part(a: Num, c: Fraction) -> Num
-    requires { a.size ≤ 2 ^ 32 }
-    ensures { (value result ≡ scaled (value a) (pos c.n)) × (result.size ≤ a.size) }
-{
-    Num {
-        size: series::mul30(a.size, c),
-        ..a
-    }
-}
+// By a number of either sign, div 2^30, rounded toward zero.
+impl Mul<Sine> for Num {
+    type Output = Num;
 
-// a × b div 2^30, rounded toward zero.
-#[tactic(auto, using(crate::proofs::Signs::scaled_signs))]
-pub fn scale(a: Num, b: Sine) -> Num
-    requires { a.size ≤ 2 ^ 32 }
-    ensures { (value result ≡ scaled (value a) (value b.n)) × (result.size ≤ a.size) }
-{
-    Num {
-        minus: a.minus != b.n.minus,
-        size: series::mul30(a.size, Fraction { n: b.n.size }),
+    ghost can_mul = { λ a b. a.size ≤ 2 ^ 32 };
+
+    ghost mul_gives = { λ a b n. (value n ≡ scaled (value a) (value b.n)) × (n.size ≤ a.size) };
+
+    #[tactic(auto, using(crate::proofs::Signs::scaled_signs))]
+    fn mul(self, b: Sine) -> Num {
+        Num {
+            minus: self.minus != b.n.minus,
+            size: self.size * Fraction { n: b.n.size },
+        }
     }
 }

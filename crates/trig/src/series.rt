@@ -7,6 +7,7 @@ use std::ops::Mul;
 
 const ONE: u64 = 1 << 30;
 
+// K of 01: 64 × 2^32 × π/180, the radians of a tick in the unit 2^-62.
 const K: u64 = 4797524517;
 
 // A number of the unit 2^-30, from 0 to 1.
@@ -16,6 +17,19 @@ pub struct Fraction {
     pub ghost at_most_one: { n ≤ 2 ^ 30 },
 }
 
+// a × b div 2^30: at most a. The bound is of the product in 64 bits, of no kind of number (d).
+impl Mul<Fraction> for u64 {
+    type Output = u64;
+
+    ghost can_mul = { λ a b. a ≤ 2 ^ 32 };
+
+    ghost mul_gives = { λ a b c. (c ≡ a * b.n / 2 ^ 30) × (c ≤ a) };
+
+    fn mul(self, b: Fraction) -> u64 {
+        self * b.n / ONE
+    }
+}
+
 // Of two fractions the product, rounded down.
 impl Mul for Fraction {
     type Output = Fraction;
@@ -23,9 +37,7 @@ impl Mul for Fraction {
     ghost mul_gives = { λ a b c. c.n ≡ a.n * b.n / 2 ^ 30 };
 
     fn mul(self, b: Fraction) -> Fraction {
-        Fraction {
-            n: mul30(self.n, b),
-        }
+        Fraction { n: self.n * b }
     }
 }
 
@@ -46,18 +58,11 @@ pub fn one_term(z: Fraction, s: Fraction, d: u64) -> Fraction
     ensures { result.n ≡ term z.n s.n d }
 {
     Fraction {
-        n: ONE - z.n * s.n / ONE / d,
+        n: ONE - (z * s).n / d,
     }
 }
 
-// a × b div 2^30: at most a.
-pub fn mul30(a: u64, b: Fraction) -> u64
-    requires { a ≤ 2 ^ 32 }
-    ensures { (result ≡ a * b.n / 2 ^ 30) × (result ≤ a) }
-{
-    a * b.n / ONE
-}
-
+// Of this sum and of `cos_r` the count, the divisors and the last product differ, which is all that they have: both stay (d).
 pub fn sin_h(r: Fraction) -> Fraction
     ensures { result.n ≡ sin_h r.n }
 {

@@ -12,7 +12,7 @@ const DEG_45: u64 = 45 << 24;
 
 const DEG_90: u64 = 90 << 24;
 
-const DEG_180: u64 = 180 << 24;
+pub const DEG_180: u64 = 180 << 24;
 
 // So many ticks, from -180 to 180 degrees.
 #[derive(Clone, Copy)]
@@ -21,7 +21,7 @@ pub struct Angle {
     pub ghost half_a_turn: { n.size ≤ deg 180 },
 }
 
-// 0 to 90 degrees. No twin of `cos_q`, and so both stay (d): at 45 each of the two has its own series, so neither is the other of what is left to 90.
+// 0 to 90 degrees: here a size, in `cos_q` too, and in `cos_lat` a signed angle, so no one type has all three bounds (d). No twin of `cos_q`, and so both stay (d): at 45 each of the two has its own series, so neither is the other of what is left to 90.
 #[tactic(auto, unfolding(crate::specs::Angle::sin_q))]
 fn sin_q(t: u64) -> Fraction
     requires { t ≤ deg 90 }

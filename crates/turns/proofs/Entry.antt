@@ -20,7 +20,8 @@ use Rattle.rows.specs.declared.Row.{Row}
 use Rattle.scans.specs.declared.Ends.{Ends}
 use Rattle.table.specs.declared.Refusal.{Refusal}
 use Rattle.table.specs.declared.Refusal.TheVariants as R
-use Rattle.rows.specs.Read.{form, row_is, ends_of, ends_is, watch_of, watch_is, looked_in, Looked}
+use Rattle.rows.specs.Read.{form, row_is, watch_of, watch_is, looked_in, Looked}
+use Rattle.scans.specs.Ends.{ends_of, ends_is}
 use Rattle.scans.specs.Scan.{claimable}
 use Rattle.rows.proofs.Passed.{Passed}
 use Rattle.rows.proofs.Passed as Rows

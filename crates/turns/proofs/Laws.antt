@@ -17,7 +17,7 @@ use Rattle.rows.specs.declared.Row.{Row}
 use Rattle.rows.specs.Links.{blank}
 use Rattle.rows.specs.Read.{row_is}
 use Rattle.rows.proofs.Chains.{rows_long_lem, row_is_lem}
-use Rattle.glances.specs.declared.Links.{Links}
+use Rattle.scans.specs.declared.Links.{Links}
 use Rattle.glances.specs.Glances.{links_of}
 use Rattle.turns.specs.Turn.{gave, following, Tick}
 use Rattle.turns.specs.Passes.{mark_all, count_after, list_after, passed}

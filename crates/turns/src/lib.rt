@@ -1,6 +1,7 @@
 // The turn keeper (02, Item 1), once for whatever rows are lent as (`chains::Lent`): each tick names the next k rows in ascending number, going round to 0, and gives the keys of
 // those that are used. A row alone does not tell whether it is used, so the used chain is walked once and its rows are marked; then the k rows are passed over.
-// Rows, cells, ends and a tick's words come one by one, since C hands them over so (a); a row is named by its number among those that are lent (a).
+// The marks are a bool for each number: a lent row has no room for one, and there is no heap (a). Rows, cells, ends and a tick's words come one by one, as C hands them
+// over: a struct made for one tick would have to say at its end that it still lends the same three (d); a row is named by its number among those that are lent (a).
 #![tactic(auto)]
 
 ghost use Rattle.std.specs.Prelude.{◌≡◌, List, map, ℕ, ◌+◌, ◌*◌, ◌<◌, ◌≤◌, length, get_or, true, Some, Ok};
@@ -13,6 +14,7 @@ ghost use Rattle.turns.specs.Turn.{start_of, following, question8, turn_on};
 ghost use Rattle.turns.specs.Passes.{mark_all, count_after, list_after, passed, keys_long};
 
 use chains::Lent;
+use scans::Ends;
 use table::Refusal;
 
 // How many keys a tick gave, and the next row number.
@@ -121,7 +123,7 @@ pub fn turn<W: Lent>(
 ) -> Result<Turned, Refusal>
     ensures { record { answer = result; list = list.new } ≡ turn_on form (watch_is (W.rows_in rows.now) cells.now ends.now) next k list.old }
 {
-    let e = rows::ends_of(ends);
+    let e = Ends::from(*ends);
     let look = chains::look_up(rows, cells.len(), e, scans::zero_key());
     scans::claimable(look)?;
     let n = W::count(rows);

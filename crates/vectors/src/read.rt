@@ -16,7 +16,7 @@ pub struct Setting {
     pub word: u32,
 }
 
-// What is judged beside the cells, and the stored answer.
+// What is judged beside the cells, and the stored answer: the list stores the number that C is given (a).
 #[derive(Clone, Copy)]
 pub struct Row {
     pub even: Option<u64>,
@@ -28,6 +28,7 @@ pub struct Row {
 }
 
 // The words of a line that were not taken yet. They are separated by single spaces; past the last one they are empty.
+// Not `readers::Reader`: a stray space is no fault here, and no fault is named (d).
 // What a method takes off relates two states of them, so each says it: no field holds it (d).
 #[derive(Clone, Copy)]
 struct Words<'a> {
@@ -35,17 +36,14 @@ struct Words<'a> {
 }
 
 // A number that was read, or `-` for none.
-#[tactic(auto, unfolding(crate::specs::Lines::noted))]
+#[tactic(auto, using(fields::proofs::Lines::same_is), unfolding(crate::specs::Lines::noted))]
 fn noted<T: Copy>(word: &[u8], read: Option<T>) -> Result<Option<T>, Unread>
     ensures { result ≡ noted word.now read }
 {
-    if fields::same(word, b"-") {
+    if word == b"-".as_slice() {
         return Ok(None);
     }
-    match read {
-        Some(n) => Ok(Some(n)),
-        None => Err(Unread),
-    }
+    Ok(Some(read.ok_or(Unread)?))
 }
 
 pub fn whole_in(word: &[u8]) -> Result<Option<u64>, Unread>

@@ -61,7 +61,7 @@ fn no_cells() -> [u32; 3344]
     [empty; 3344]
 }
 
-// The judging of a row, as the number that stands for it.
+// The judging of a row, as the number that stands for it in the list (a).
 fn judged(r: Row, cells: &[u32]) -> u32
     ensures { result ≡ judged_by r cells.now }
 {
@@ -104,18 +104,19 @@ impl Done {
         self.cells = no_cells();
     }
 
-    // What a line does, by its first word.
+    // What a line does, by its first word. A `match` on the word's bytes left a goal open for each of its five ways out (c).
+    #[tactic(auto, using(fields::proofs::Lines::same_is), unfolding(crate::specs::Replays::after))]
     fn take(&mut self, t: &[u8])
         ensures { self.new ≡ after self.old t.now }
     {
         let w = read::first(t);
-        if fields::same(w, b"cell") {
+        if w == b"cell".as_slice() {
             self.cell(t);
-        } else if fields::same(w, b"judging") {
+        } else if w == b"judging".as_slice() {
             self.judging(t);
-        } else if fields::same(w, b"count") {
+        } else if w == b"count".as_slice() {
             self.counts = Counts::new();
-        } else if !fields::same(w, b"#") {
+        } else if w != b"#".as_slice() {
             self.counts.miss();
         }
     }
@@ -131,7 +132,7 @@ impl Done {
     }
 }
 
-// Takes the next line, or reads more where no line is whole.
+// Takes the next line, or reads more where no line is whole. That a sink that failed stays as it is relates two states of it, here, below and in `write` (d).
 fn step<R: Read, W: Write>(done: &mut Done, list: &mut Lines<'_, R>, to: &mut Sink<W>)
     ensures turn { Stepped (view_of R.remaining W.contents list.old.input list.old.buf.now list.old.source to.old done.old) (view_of R.remaining W.contents list.new.input list.new.buf.now list.new.source to.new done.new) }
     ensures source { source_failed list.old.source ≡ true → list.new.source ≡ list.old.source }
@@ -145,6 +146,7 @@ fn step<R: Read, W: Write>(done: &mut Done, list: &mut Lines<'_, R>, to: &mut Si
 }
 
 // A proved loop has to end, and nothing says that the input does. So the loop has as many turns as no run uses up.
+// Not one with the loop of `calls::input`: a common one would take the step as a closure with its contract over all that it changes (d).
 pub fn run<R: Read, W: Write>(list: &mut Lines<'_, R>, to: &mut Sink<W>)
     ensures turns { Replayed (view_of R.remaining W.contents list.old.input list.old.buf.now list.old.source to.old nothing_done) (view_of R.remaining W.contents list.new.input list.new.buf.now list.new.source to.new) }
     ensures source { source_failed list.old.source ≡ true → list.new.source ≡ list.old.source }

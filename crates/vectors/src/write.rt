@@ -13,7 +13,7 @@ use lines::Sink;
 use print::Text;
 use std::io::Write;
 
-// A number and what it counts.
+// A number and what it counts. `Put` says of texts that do not fit too what is put, which `Adds` leaves open (d).
 fn put_count(to: &mut Text<'_>, n: u64, what: &[u8])
     ensures { Put to.old.out.now to.old.n (count_text n what.now) to.new.out.now to.new.n }
 {
@@ -32,14 +32,15 @@ fn put_counts(to: &mut Text<'_>, c: Counts, name: &[u8])
     put_count(to, c.unread, b" unread\n");
 }
 
-// Where a line is `count NAME`, writes what was counted and answers how many bytes that is.
+// Where a line is `count NAME`, writes what was counted and answers how many bytes that is: no caller asks, but it was promised (a).
+#[tactic(auto, using(fields::proofs::Lines::same_is), unfolding(crate::specs::Print::shown_by, crate::specs::Print::shown_text))]
 pub fn show<W: Write>(to: &mut Sink<W>, c: Counts, t: &[u8]) -> usize
     ensures count { result ≡ shown_by c t.now }
     ensures written { sink_failed to.new ≡ false → Appends (held_by W.contents to.old) (held_by W.contents to.new) (shown_text c t.now) }
     ensures kept { same_bytes (word_of 0 t.now) word_count ≡ false → to.new ≡ to.old }
     ensures failed { sink_failed to.old ≡ true → to.new ≡ to.old }
 {
-    if fields::same(read::first(t), b"count") {
+    if read::first(t) == b"count".as_slice() {
         let mut out = [0u8; 2048];
         let mut row = Text {
             out: &mut out,

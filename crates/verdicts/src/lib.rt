@@ -6,7 +6,7 @@ ghost use Rattle.verdicts.specs.Verdict as verdict;
 
 use near_field::Judgment;
 
-// What a row keeps of its last judging. It holds no distance, as `Judgment` and `CheckState` do: the three are not one.
+// What a row keeps of its last judging. Unlike `Judgment` and `CheckState` it has no distance, which a row keeps in `wrong_by`, so the three are not one (d).
 #[derive(Clone, Copy)]
 pub enum Last {
     Unjudged,
@@ -43,7 +43,7 @@ fn wrongly(v: Verdict, off_km: u32) -> Verdict
         last: Last::Wrong,
         wrong_run,
         other_run: 0,
-        wrong_by: if held { Some(off_km) } else { None },
+        wrong_by: held.then_some(off_km),
         moved: false,
     }
 }
@@ -97,7 +97,7 @@ fn goes_on(v: Option<Verdict>) -> Verdict
     }
 }
 
-// One judging more.
+// One judging more. There is a run from then on: Some, as the row keeps it (d).
 pub fn judged_next(v: Option<Verdict>, j: Judgment) -> Option<Verdict>
     ensures { result ≡ verdict.judged_next v j }
 {
@@ -108,20 +108,14 @@ pub fn judged_next(v: Option<Verdict>, j: Judgment) -> Option<Verdict>
 pub fn too_soon(kept: Option<u64>, now_ms: u64) -> bool
     ensures { result ≡ verdict.too_soon kept now_ms }
 {
-    match kept {
-        Some(ms) => now_ms < ms || now_ms - ms < 1800000,
-        None => false,
-    }
+    kept.is_some_and(|ms| now_ms < ms || now_ms - ms < 1800000)
 }
 
 // A move has ended the run; check speaks of it until a new one begins.
 pub fn ended(v: Option<Verdict>) -> Option<Verdict>
     ensures { result ≡ verdict.run_ended v }
 {
-    match v {
-        Some(w) => Some(Verdict { moved: true, ..w }),
-        None => None,
-    }
+    v.map(|w| Verdict { moved: true, ..w })
 }
 
 // What check says of a verdict: with no distance held, what the last judging found if that was Fits.
@@ -132,8 +126,7 @@ pub fn says(v: Verdict) -> CheckState
         Some(d) => CheckState::Wrong(d),
         None => match v.last {
             Last::Fits => CheckState::Fits,
-            Last::Unjudged => CheckState::Unjudged,
-            Last::Wrong => CheckState::Unjudged,
+            Last::Unjudged | Last::Wrong => CheckState::Unjudged,
         },
     }
 }
@@ -149,11 +142,5 @@ pub fn is_step(d: u32) -> bool
 pub fn fits(v: Option<Verdict>) -> bool
     ensures { result ≡ verdict.verdict_fits v }
 {
-    match v {
-        Some(w) => match w.wrong_by {
-            Some(d) => is_step(d),
-            None => true,
-        },
-        None => true,
-    }
+    v.and_then(|w| w.wrong_by).is_none_or(is_step)
 }

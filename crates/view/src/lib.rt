@@ -37,14 +37,11 @@ fn is_recent(id: u64, now: u64) -> bool
 }
 
 // Whether a half with this id is merged at now_ms.
+#[tactic(auto, unfolding(crate::specs::View::kept))]
 pub fn kept_at(id: Option<u64>, now_ms: u64) -> bool
     ensures { result ≡ kept id now_ms }
 {
-    // No `is_some_and`: what a closure answers, the proof does not see.
-    match id {
-        Some(n) => is_recent(n, now_ms / 43200000),
-        None => false,
-    }
+    id.is_some_and(|n| is_recent(n, now_ms / 43200000))
 }
 
 // A cell of a half, or the empty one if the half is not merged.

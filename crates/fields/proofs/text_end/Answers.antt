@@ -1,10 +1,10 @@
--- Where a `#` was found its place is moved back over spaces, otherwise the line's length is the end: the two cases of `text_end`.
+-- Where a `#` was found the part before it is moved back over spaces, otherwise the line's length is the end: the two cases of `text_end`.
 use Rattle.std.proofs.Common.{◌∙◌, sym}
 use Rattle.fields.proofs.Lines.{text_comment, text_whole}
 use Rattle.fields.proofs.text_end.Goals as goal
 
-pub returns-then-hash-line : goal.returns-then-hash-line
-returns-then-hash-line c = c.back_over.ensures ∙ sym (text_comment _ _ c.find-hash.ensures c.if-hash-line.true)
+pub returns-in-Some : goal.returns-in-Some
+returns-in-Some c = c.back_over.ensures ∙ text_comment c.args.line.now c.in-Some.hash (sym c.in-Some.is ∙ c.first_place.ensures.is)
 
-pub returns-else-hash-line : goal.returns-else-hash-line
-returns-else-hash-line c = sym (text_whole _ _ c.find-hash.ensures c.if-hash-line.false)
+pub returns-in-None : goal.returns-in-None
+returns-in-None c = sym (text_whole c.args.line.now (sym c.in-None.is ∙ c.first_place.ensures.is))

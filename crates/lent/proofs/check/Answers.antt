@@ -11,5 +11,5 @@ pub returns : goal.returns
 returns g c =
     let a = c.args in
     told_call g.met.W.Lent.leaves _ _ _ a.ends.now c.check_answer.result (λ x q. refl) _ _ check
-    (checked (g.W.Lent.rows_in a.rows.now) a.cells.now a.ends.now c.ends_of-e.result a.key c.look_up.result c.ends_of-e.ensures c.look_up.ensures c.in_ok-i.i c.in_ok-i.was c.check_answer.result
+    (checked (g.W.Lent.rows_in a.rows.now) a.cells.now a.ends.now c.from-e.result a.key c.look_up.result c.from-e.ensures c.look_up.ensures c.in_ok-i.i c.in_ok-i.was c.check_answer.result
     (c.check_answer.ensures ∙ ap (λ (x : Row). check_answer x.part.verdict) c.get.ensures))

@@ -9,7 +9,7 @@ use Rattle.lent.proofs.drop_oldest.Goals as goal
 pub free-requires : goal.free-requires
 free-requires g c =
     let a = c.args in
-    let e = c.ends_of-e in
+    let e = c.from-e in
     let l = c.look_up-look in
     let o = c.in_ok-claimable in
     let pass = claim_passed (g.W.Lent.rows_in a.rows.now) a.cells.now a.ends.now e.result c.zero_key.result l.result e.ensures l.ensures o.field-0 (sym c.claimable.ensures ∙ o.was) in
@@ -18,7 +18,7 @@ free-requires g c =
 pub returns : goal.returns
 returns g c =
     let a = c.args in
-    let e = c.ends_of-e in
+    let e = c.from-e in
     let l = c.look_up-look in
     let o = c.in_ok-claimable in
     let f = c.free in

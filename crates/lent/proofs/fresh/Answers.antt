@@ -21,6 +21,6 @@ fresh_rows-requires g c =
 pub returns : goal.returns
 returns g c =
     let a = c.args in
-    told_fresh g.met.W.Lent.leaves _ _ _ c.keep.new.ends (Ok Wd.Done) (λ x q. no_ok q) _
-    (fresh_made (g.W.Lent.rows_in a.rows.now) _ a.cells.now a.ends.now _ c.count-n.ensures c.sizes_fit.ensures _ _ c.keep.new.ends c.fresh_ends.result _
-    c.if-not-sizes_fit.false c.fresh_rows.ensures c.fresh_cells.ensures c.fresh_ends.ensures c.keep.ensures refl)
+    told_fresh g.met.W.Lent.leaves _ _ _ c.into.result (Ok Wd.Done) (λ x q. no_ok q) _
+    (fresh_made (g.W.Lent.rows_in a.rows.now) _ a.cells.now a.ends.now _ c.count-n.ensures c.sizes_fit.ensures _ _ c.into.result c.fresh_ends.result _
+    c.if-not-sizes_fit.false c.fresh_rows.ensures c.fresh_cells.ensures c.fresh_ends.ensures c.into.ensures refl)

@@ -17,7 +17,7 @@ use Rattle.lent.proofs.judging.Goals as goal
 pub returns-then-too_soon : goal.returns-then-too_soon
 returns-then-too_soon g c =
     let a = c.args in
-    let e = c.ends_of-e in
+    let e = c.from-e in
     told_call g.met.W.Lent.leaves _ _ _ a.ends.now (Err R.TooSoon) (λ x q. refl) _ _ (judging a.now_ms a.aircraft)
     (undue (g.W.Lent.rows_in a.rows.now) a.cells.now a.ends.now e.result a.key c.look_up.result e.ensures c.look_up.ensures c.in_ok-i.i c.in_ok-i.was a.now_ms a.aircraft
     (ap (λ (x : Row). too_soon x.part.judged_ms a.now_ms) (sym c.get.ensures) ∙ sym c.too_soon.ensures ∙ c.if-too_soon.true))
@@ -25,13 +25,13 @@ returns-then-too_soon g c =
 pub judge_cells-j-requires : goal.judge_cells-j-requires
 judge_cells-j-requires g c =
     let a = c.args in
-    let e = c.ends_of-e in
+    let e = c.from-e in
     held_room (g.W.Lent.rows_in a.rows.now) a.cells.now a.ends.now e.result a.key c.look_up.result e.ensures c.look_up.ensures c.in_ok-i.i c.in_ok-i.was
 
 pub returns : goal.returns
 returns g c =
     let a = c.args in
-    let e = c.ends_of-e in
+    let e = c.from-e in
     let j = c.judge_cells-j in
     told_call g.met.W.Lent.leaves _ _ _ a.ends.now (Ok (Wd.Judged j.result)) (λ x q. no_ok q) _ _ (judging a.now_ms a.aircraft)
     (judged (g.W.Lent.rows_in a.rows.now) a.cells.now a.ends.now e.result a.key c.look_up.result e.ensures c.look_up.ensures c.in_ok-i.i c.in_ok-i.was a.now_ms a.aircraft

@@ -9,11 +9,11 @@ use Rattle.lent.proofs.take_out.Goals as goal
 pub free-requires : goal.free-requires
 free-requires g c =
     let a = c.args in
-    held_room (g.W.Lent.rows_in a.rows.now) a.cells.now a.ends.now c.ends_of-e.result a.key c.look_up.result c.ends_of-e.ensures c.look_up.ensures c.in_ok-i.i c.in_ok-i.was
+    held_room (g.W.Lent.rows_in a.rows.now) a.cells.now a.ends.now c.from-e.result a.key c.look_up.result c.from-e.ensures c.look_up.ensures c.in_ok-i.i c.in_ok-i.was
 
 pub returns : goal.returns
 returns g c =
     let a = c.args in
     let f = c.free in
     told_call g.met.W.Lent.leaves _ _ _ f.new.ends f.result (accepts _ _ f.ensures.0) _ _ take_out
-    (took_out (g.W.Lent.rows_in a.rows.now) a.cells.now a.ends.now c.ends_of-e.result a.key c.look_up.result c.ends_of-e.ensures c.look_up.ensures c.in_ok-i.i c.in_ok-i.was _ _ f.new.ends f.result f.ensures.0 f.ensures.1 f.ensures.2 f.ensures.3)
+    (took_out (g.W.Lent.rows_in a.rows.now) a.cells.now a.ends.now c.from-e.result a.key c.look_up.result c.from-e.ensures c.look_up.ensures c.in_ok-i.i c.in_ok-i.was _ _ f.new.ends f.result f.ensures.0 f.ensures.1 f.ensures.2 f.ensures.3)

@@ -14,7 +14,7 @@ loop-j-init c = record { near = among_start bin_spot _ _; seen = none_seen _ }
 pub overflow_add-seen : goal.overflow_add-seen
 overflow_add-seen c =
     let l = c.loop-j in
-    omega (arith, l.invariant.seen, positions_fit c.args.bins l.j, count_small (get_or c.args.bins l.j 0))
+    omega (arith, l.invariant.seen, positions_fit c.args.far.cells l.j, count_small (get_or c.args.far.cells l.j 0))
 
 pub loop-j-preserved : goal.loop-j-preserved
 loop-j-preserved c =
@@ -29,10 +29,10 @@ loop-j-preserved c =
           record { near = w.near-is ∙ among_none bin_spot _ _ l.near l.j l.invariant.near free; seen = w.seen-is ∙ seen_none _ l.seen l.j l.invariant.seen free }
     ]
 
-pub returns-then-positions-seen : goal.returns-then-positions-seen
-returns-then-positions-seen c =
+pub returns-then-far-seen : goal.returns-then-far-seen
+returns-then-far-seen c =
     let l = c.loop-j in
-    l.invariant.near ∙ sym (all_nearest bin_spot c.args.bins _ l.j 72 (omega arith) (omega (arith, l.invariant.seen, c.requires)))
+    l.invariant.near ∙ sym (all_nearest bin_spot c.args.far.cells _ l.j 72 (omega arith) (omega (arith, l.invariant.seen, c.requires)))
 
 pub returns : goal.returns
 returns c = let l = c.loop-j in let e : l.j ≡ 72 = omega arith in rw e at l.invariant.near

@@ -6,4 +6,4 @@ use Rattle.nearest.specs.Counted.{bin_step, gather}
 use Rattle.nearest.proofs.with_bins.Given as goal
 
 abbrev pub invariant-loop-j : goal.invariant-loop-j
-invariant-loop-j l = record { at : l.at ≡ pass (gather bin_step l.fn.bins) l.fn.cells l.j; seen : l.seen ≡ positions_among l.fn.bins l.j }
+invariant-loop-j l = record { at : l.at ≡ pass (gather bin_step l.fn.far.cells) l.fn.cells l.j; seen : l.seen ≡ positions_among l.fn.far.cells l.j }

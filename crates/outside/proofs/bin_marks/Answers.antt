@@ -12,8 +12,8 @@ pub loop-k-preserved : goal.loop-k-preserved
 loop-k-preserved c =
     let l = c.loop-k in
     let bins = c.args.bins.now in
-    λ f e. marked_more f (λ (j : ℕ). some (bin_in bins j) 72) l.k l.m c.with_mark-next.result (omega arith) (l.invariant f e)
-    (c.with_mark-next.ensures ∙ ap (λ (b : Bool). cond b (set l.m l.k true) l.m) c.bin_heard.ensures)
+    λ f e. marked_more f (λ (j : ℕ). some (bin_in bins j) 72) l.k l.m c.mark-next.result (omega arith) (l.invariant f e)
+    (c.mark-next.ensures ∙ ap (λ (b : Bool). cond b (set l.m l.k true) l.m) c.bin_heard.ensures)
 
 pub returns : goal.returns
 returns c =

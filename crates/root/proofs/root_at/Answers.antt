@@ -3,7 +3,8 @@ use Rattle.std.proofs.Common.{◌≡◌, ℕ, suc, ◌+◌, ◌-◌, ◌*◌, �
 use lib.Ieee.{binary64, of_bits}
 use Rattle.root.proofs.Value.{of_pattern, normal, pattern_no_nan}
 use Rattle.root.proofs.Whole.{twice_at_most}
-use Rattle.root.proofs.Guessed.{nearest, nearest_le}
+use Rattle.root.specs.Root.{nearest54}
+use Rattle.root.proofs.Guessed.{nearest_le}
 use Rattle.root.proofs.Pattern.{pattern_of}
 use Rattle.root.proofs.root_at.Goals as goal
 
@@ -25,7 +26,7 @@ half : (e : ℕ) → (e + 1021) / 2 ≡ (e + 51) / 2 + 485
 half e = omega arith
 
 -- the nearest has 53 digits, or is the number after them
-small : (b n : ℕ) → n ≡ nearest ((b % 2 ^ 52 + 2 ^ 52) * ((b / 2 ^ 52 + 51) % 2 + 1)) → n ≤ 2 ^ 53
+small : (b n : ℕ) → n ≡ nearest54 ((b % 2 ^ 52 + 2 ^ 52) * ((b / 2 ^ 52 + 51) % 2 + 1)) → n ≤ 2 ^ 53
 small b n e = subst (λ (r : ℕ). r ≤ 2 ^ 53) (sym e) (nearest_le ((b % 2 ^ 52 + 2 ^ 52) * ((b / 2 ^ 52 + 51) % 2 + 1)) (twice_at_most (b % 2 ^ 52 + 2 ^ 52) ((b / 2 ^ 52 + 51) % 2) (omega arith) (omega arith)))
 
 pub overflow_add-result-2 : goal.overflow_add-result-2

@@ -3,7 +3,8 @@ use Rattle.std.proofs.Common.{◌≡◌, refl, zero-mul, Bool, true, false, ltb,
 use Rattle.std.specs.Int.Count.{count_leading_zeros}
 use borrow.Author.Tests.{ltb-true, ltb-false}
 use Rattle.root.proofs.Whole.{twice_at_most, once_at_least}
-use Rattle.root.proofs.Guessed.{nearest, nearest_le}
+use Rattle.root.specs.Root.{nearest54}
+use Rattle.root.proofs.Guessed.{nearest_le}
 use Rattle.root.proofs.Pattern.{pattern_of}
 use Rattle.root.proofs.Shifted.{Shifted, room, in_place}
 use Rattle.root.proofs.root_pattern.Goals as goal
@@ -48,7 +49,7 @@ module _ (m h : ℕ) (digits : m < 2 ^ 53) (large : 2 ^ 52 ≤ m * 2 ^ h) where
   within = twice_at_most n (k % 2) high (omega arith)
 
   -- the nearest has 53 digits, or is the number after them
-  small : (c : ℕ) → c ≡ nearest (n * (k % 2 + 1)) → c ≤ 2 ^ 53
+  small : (c : ℕ) → c ≡ nearest54 (n * (k % 2 + 1)) → c ≤ 2 ^ 53
   small c e = subst (λ (r : ℕ). r ≤ 2 ^ 53) (sym e) (nearest_le (n * (k % 2 + 1)) within)
 
 pub overflow_sub-free : goal.overflow_sub-free

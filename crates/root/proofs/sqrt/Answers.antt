@@ -2,9 +2,8 @@
 use Rattle.std.proofs.Common.{◌≡◌, ℕ, ◌/◌, ◌%◌, ◌^◌, ◌<◌, ◌≤◌, true, T, sym, ap, ◌∙◌, subst, arith, rules}
 use lib.Ieee.{Float, binary64, fits, lt, div, of_bits, to_bits}
 use lib.Ieee.Bits.{of_bits-to_bits}
-use Rattle.root.specs.Root.{root, plus_zero}
+use Rattle.root.specs.Root.{root, plus_zero, nearest54}
 use Rattle.root.proofs.Value.{Above, above, subnormal_pos, subnormal, infinite, root_of_zero, no_root, pattern_no_nan}
-use Rattle.root.proofs.Guessed.{nearest}
 use Rattle.root.proofs.sqrt.Goals as goal
 
 -- a pattern that is not the infinity's is below it
@@ -61,8 +60,8 @@ invariant_of-b c = record {
 
 pub root_at-requires : goal.root_at-requires
 root_at-requires c =
-    let n : c.unwrap_or_else.result ≡ nearest c.digits-p.result.n = search rules in
-    n ∙ ap nearest c.digits-p.ensures
+    let n : c.unwrap_or_else.result ≡ nearest54 c.digits-p.result.n = search rules in
+    n ∙ ap nearest54 c.digits-p.ensures
 
 pub returns-then-x : goal.returns-then-x
 returns-then-x c = c.root_at.ensures ∙ as_read c.args.x (subst T (sym c.well_formed.0.1) tt) c.if-x.true

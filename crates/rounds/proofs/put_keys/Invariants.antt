@@ -1,5 +1,5 @@
 -- The keys before i are put.
-use Rattle.answers.specs.Answers.{Adds}
+use Rattle.print.specs.Print.{Adds}
 use Rattle.rounds.specs.Rounds.{keys_text}
 use Rattle.rounds.proofs.put_keys.Given as goal
 

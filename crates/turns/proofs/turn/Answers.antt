@@ -6,7 +6,7 @@ use Rattle.turns.proofs.turn.Goals as goal
 pub mark_used-requires : goal.mark_used-requires
 mark_used-requires g c =
     let args = c.args in
-    let e = c.ends_of-e in
+    let e = c.from-e in
     let l = c.look_up-look in
     let o = c.in_ok-claimable in (
       c.count-n.ensures,
@@ -17,7 +17,7 @@ pub pass-requires : goal.pass-requires
 pass-requires g c =
     let args = c.args in
     let rows = g.W.Lent.rows_in args.rows.now in
-    let e = c.ends_of-e in
+    let e = c.from-e in
     let l = c.look_up-look in
     let o = c.in_ok-claimable in (
       few rows args.cells.now args.ends.now e.result c.zero_key.result l.result e.ensures l.ensures args.next args.k args.list.now o.field-0 c.count-n.result (sym c.claimable.ensures ∙ o.was) c.count-n.ensures,
@@ -30,7 +30,7 @@ pass-requires g c =
 pub returns : goal.returns
 returns g c =
     let args = c.args in
-    let e = c.ends_of-e in
+    let e = c.from-e in
     let l = c.look_up-look in
     let o = c.in_ok-claimable in
     turn_passes (g.W.Lent.rows_in args.rows.now) args.cells.now args.ends.now e.result c.zero_key.result l.result e.ensures l.ensures args.next args.k args.list.now o.field-0 c.count-n.result (sym c.claimable.ensures ∙ o.was) c.count-n.ensures

@@ -9,14 +9,14 @@ width (suc (suc zero)) l = (omega arith, refl, refl)
 width (suc (suc (suc zero))) l = (omega arith, refl, refl)
 width (suc (suc (suc (suc i)))) l = absurd (omega arith)
 
-pub take_off-v-requires : goal.take_off-v-requires
-take_off-v-requires c =
+pub take_off-edge-requires : goal.take_off-edge-requires
+take_off-edge-requires c =
     let l = c.loop-n in
     let w = width l.n-index c.loop-n-test.true in
-    (omega (arith, l.invariant), w.0, omega (arith, w.1, l.invariant))
+    (w.0, omega (arith, w.1, l.invariant))
 
 pub loop-n-preserved : goal.loop-n-preserved
 loop-n-preserved c =
     let l = c.loop-n in
     let w = width l.n-index c.loop-n-test.true in
-    (omega arith, l.invariant.1, omega (arith, l.invariant, c.take_off-v.ensures), omega (arith, w.2, c.take_off-v.ensures))
+    (omega arith, omega (arith, l.invariant, c.take_off-edge.ensures), omega (arith, w.2, c.take_off-edge.ensures))

@@ -5,10 +5,10 @@ pub returns-in-Extra : goal.returns-in-Extra
 returns-in-Extra c = rw (c.in-Extra.is, ← c.of_name-in-Extra.ensures) c.put_two-in-Extra.ensures
 
 pub returns-in-StrayReturn : goal.returns-in-StrayReturn
-returns-in-StrayReturn c = rw c.in-StrayReturn.is c.put_word-in-StrayReturn.ensures
+returns-in-StrayReturn c = rw c.in-StrayReturn.is c.put-in-StrayReturn.ensures.adds
 
 pub returns-in-TooLong : goal.returns-in-TooLong
-returns-in-TooLong c = rw c.in-TooLong.is c.put_word-in-TooLong.ensures
+returns-in-TooLong c = rw c.in-TooLong.is c.put-in-TooLong.ensures.adds
 
 pub returns-in-TooManyRows : goal.returns-in-TooManyRows
-returns-in-TooManyRows c = rw c.in-TooManyRows.is c.put_word-in-TooManyRows.ensures
+returns-in-TooManyRows c = rw c.in-TooManyRows.is c.put-in-TooManyRows.ensures.adds

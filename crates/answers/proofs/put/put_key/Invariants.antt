@@ -1,5 +1,6 @@
 -- The bytes before j are put.
-use Rattle.answers.specs.Answers.{bytes_text, Adds}
+use Rattle.answers.specs.Answers.{bytes_text}
+use Rattle.print.specs.Print.{Adds}
 use Rattle.answers.proofs.put.put_key.Given as goal
 
 abbrev pub invariant-loop-j : goal.invariant-loop-j

@@ -1,9 +1,7 @@
 -- After a row `all` has the bits of the rows so far.
-use Rattle.std.proofs.Common.{◌≡◌, ◌+◌, ◌*◌, ◌≤◌}
+use Rattle.std.proofs.Common.{◌≡◌, ◌*◌}
 use Rattle.around.specs.Marks.{bits_in, near}
-use Rattle.around.specs.Counts.{under}
 use Rattle.around.proofs.spans.bits_around.Given as goal
 
 abbrev pub invariant-loop-row : goal.invariant-loop-row
-invariant-loop-row l =
-    (l.at.y ≤ 2 * l.row + 11) × (l.row ≤ l.end) × (l.end ≡ under (l.at.y + 11)) × (l.all ≡ bits_in (near l.grid l.at.x l.at.y) l.grid (40 * l.row))
+invariant-loop-row l = l.all ≡ bits_in (near l.grid l.at.x l.at.y) l.grid (40 * l.row)

@@ -1,21 +1,16 @@
 -- The rows left out hold no cell within 25 km.
-use Rattle.std.proofs.Common.{◌≡◌, ℕ, ◌+◌, ap, ◌∙◌, arith}
+use Rattle.std.proofs.Common.{◌≡◌, ◌+◌, ◌∙◌, arith}
 use Rattle.around.specs.Counts.{under}
 use Rattle.around.proofs.Window.{cells_start, cells_end}
 use Rattle.around.proofs.spans.cells_around.Goals as goal
 
 pub loop-row-init : goal.loop-row-init
-loop-row-init c = (
-  omega arith,
-  omega arith,
-  c.centres_under-end.ensures.0,
-  λ g eh. cells_start g c.args.at.x c.args.at.y c.centres_under-from.result c.args.at.in_grid.1
-      (c.centres_under-from.ensures.0 ∙ ap (λ (z : ℕ). under z) c.saturating_sub.ensures),
-  omega arith,
-)
+loop-row-init c =
+    let p = c.args.at in
+    record { count = λ g eh. cells_start g p.x p.y _ p.in_grid.1 c.rows_near-rows.ensures.0; bound = omega arith }
 
 pub returns : goal.returns
 returns c =
-    let l = c.loop-row in
-    let e : l.row ≡ under (c.args.at.y + 11) = omega arith in
-    λ g eh. l.invariant.3 g eh ∙ cells_end g c.args.at.x c.args.at.y l.row c.args.at.in_grid.1 e
+    let p = c.args.at in
+    let e : c.loop-row.row ≡ under (p.y + 11) = omega arith in
+    λ g eh. c.loop-row.invariant.count g eh ∙ cells_end g p.x p.y _ p.in_grid.1 e

@@ -1,23 +1,13 @@
--- A line end that was found lies before `have`, so the sums fit; the test is the definition's.
-use Rattle.std.proofs.Common.{arith}
-use Rattle.lines.proofs.Waiting.{end_le, taken_none, taken_line}
+-- A line end that was found lies before `have`; the two cases are the definition's.
+use Rattle.std.proofs.Common.{◌-◌, ◌∙◌, sym, drop, length-take, arith}
+use Rattle.lines.proofs.Waiting.{taken_none, taken_line}
 use Rattle.lines.proofs.Lines.taken.Goals as goal
 
-pub returns-then-n-s : goal.returns-then-n-s
-returns-then-n-s g c =
-    let s = c.args.self.now in (taken_none s.input s.buf.now c.find-n.ensures c.if-n-s.true, (omega arith, omega arith))
-
-pub overflow_add-end : goal.overflow_add-end
-overflow_add-end g c =
-    let s = c.args.self.now in omega (arith, c.find-n.ensures, end_le s.input s.buf.now)
-
-pub overflow_add-result : goal.overflow_add-result
-overflow_add-result g c =
-    let s = c.args.self.now in omega (arith, c.find-n.ensures, end_le s.input s.buf.now)
+pub returns-in_default : goal.returns-in_default
+returns-in_default g c =
+    let s = c.args.self.now in
+    (taken_none s.input s.buf.now (omega arith, omega arith) (sym c.in_default.is ∙ c.first_place.ensures.is), (omega arith, omega arith))
 
 pub returns : goal.returns
 returns g c =
-    let s = c.args.self.now in (
-      taken_line s.input s.buf.now c.find-n.ensures c.if-n-s.false c.whole.ensures,
-      (omega (arith, c.find-n.ensures, end_le s.input s.buf.now), omega arith),
-    )
+    let s = c.args.self.now in (taken_line s.input s.buf.now (sym c.in-Some.is ∙ c.first_place.ensures.is) c.whole.ensures, (omega (arith, c.in-Some.ensures.inside, length-take (s.input.have - s.input.at) (drop s.input.at s.buf.now)), omega arith))
