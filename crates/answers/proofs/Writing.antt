@@ -10,7 +10,7 @@ use lib.ListN.{length, get_or, take, drop, length-append, length-drop, take-appe
 use lib.Seq.{take_at, drop-append-add, drop-drop, length-take-le}
 use Rattle.fields.specs.Text.{spell, part_of, shown_of}
 use Rattle.print.specs.declared.Text.{Text}
-use Rattle.print.specs.Print.{digits, decimal_text, put_in, put_end, SameBuffer, Wrote, Adds}
+use Rattle.print.specs.Print.{digits, decimal_text, put_in, SameBuffer, Wrote, Adds}
 use Rattle.answers.specs.Words.{◌then◌}
 use Rattle.readers.specs.declared.Fault.{Fault}
 use Rattle.answers.specs.Answers.{shown_text, fault_text, bytes_text, wrong_text}

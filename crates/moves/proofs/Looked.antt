@@ -36,7 +36,7 @@ use Rattle.rows.specs.Read.{form, fits, row_is, watch_of, watch_is, looked_in, L
 use Rattle.scans.specs.Ends.{ends_of, ends_is}
 use Rattle.rows.specs.Links.{blank, part_at, room_ends, seat_of}
 use Rattle.rows.proofs.Chains.{rows_long_lem, row_is_lem}
-use Rattle.rows.proofs.Passed.{Passed, passed, no_ok, one_ok, one_err}
+use Rattle.rows.proofs.Passed.{Passed, passed, no_ok, one_ok}
 use Rattle.moves.specs.Answers.{outcome}
 use Rattle.scans.specs.declared.Key.{Key}
 use Rattle.scans.specs.declared.Ends.{Ends}

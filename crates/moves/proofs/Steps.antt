@@ -18,8 +18,7 @@ use Rattle.table.specs.declared.Refusal.{Refusal}
 use Rattle.table.specs.declared.Refusal.TheVariants as R
 use Rattle.table.specs.Rows as T
 use Rattle.table.specs.Rows.{NONE, Watch, row_at}
-use Rattle.table.specs.Questions.{question1, question2}
-use Rattle.table.specs.Watch.{Body, fresh_body, put_body, touch, free_row, pushed_out, take_row, refusal, on_row, on_new}
+use Rattle.table.specs.Watch.{Body, put_body, touch, free_row, pushed_out, take_row, refusal, on_row, on_new}
 use Rattle.table.proofs.Tests.{by_bool}
 use Rattle.table.proofs.Cells.{cells_same}
 use Rattle.table.proofs.Stores.{back_same, put_unchanged}
@@ -37,7 +36,7 @@ use Rattle.rows.specs.declared.Row.{Row}
 use Rattle.rows.specs.declared.Seat.{Seat}
 use Rattle.rows.specs.Read.{form, row_is, watch_of, watch_is, Looked}
 use Rattle.scans.specs.Ends.{ends_of, ends_is}
-use Rattle.rows.specs.Links.{blank, with_part, part_at, parted_rows, released_rows, released_ends, marked_rows, marked_ends, room_rows, room_ends, entered_rows, entered_ends, seat_of, seated_rows, made_seat}
+use Rattle.rows.specs.Links.{blank, with_part, part_at, parted_rows, released_rows, released_ends, marked_rows, marked_ends, room_rows, room_ends, entered_rows, entered_ends, seat_of, seated_rows}
 use Rattle.rows.proofs.Chains.{row_is_lem, unlinked_long, free_is_lem, touch_is, put_is, take_is, room_is}
 use Rattle.moves.specs.declared.Word.TheVariants as Wd
 use Rattle.moves.specs.Answers.{Answer, answer_is, outcome, check_answer}
