@@ -1,7 +1,7 @@
 -- The rows of a slice of words, by their places: one row's words are all that its row is read from, and a store of them changes that row alone.
 use mathlib.Core.Path.{◌≡◌, refl, sym, ap, ◌∙◌, subst}
 use mathlib.Core.Logic.{◌≢◌}
-use Prim.Native.Nat.{ℕ, zero, suc, ◌+◌, ◌*◌, ◌/◌, ◌%◌, ◌≤◌, ◌<◌}
+use Prim.Native.Nat.{ℕ, zero, suc, ◌+◌, ◌-◌, ◌*◌, ◌/◌, ◌%◌, ◌≤◌, ◌<◌}
 use native.Mathlib.Omega.{arith}
 use native.Mathlib.Nat.{div-add-mod', mul-le-mul_right}
 use mathlib.Core.Bool.{Bool, true, false, cond}
@@ -208,3 +208,18 @@ module _ (ws : List ℕ) (i a : ℕ) (inside : i < length (rows_of ws)) (ea : a 
 
   pub puts : (ys : List ℕ) (r : Row) → ys ≡ closed_of r → RowIn r → rows_of (take a ws ++ (ys ++ drop 25 (drop a ws))) ≡ set (rows_of ws) i r
   puts ys r g k = stored ys (ap length g ∙ row_words_lem r) ∙ ap (set (rows_of ws) i) (ap opened_of g ∙ opened_closed r k)
+
+-- the same, from the a-th to before the z-th
+module _ (ws : List ℕ) (i a z : ℕ) (inside : i < length (rows_of ws)) (ea : a ≡ words_of_row * i) (ez : z ≡ words_of_row * i + words_of_row) where
+  between : z - a ≡ words_of_row
+  between = omega (arith, ea, ez)
+
+  pub end_in : z ≤ length ws
+  end_in = let h = has ws i inside in omega (arith, ez, room_for ws (length ws / words_of_row) i (whole ws i h) h.within)
+
+  -- they are a row's 25
+  pub part_is : length (take (z - a) (drop a ws)) ≡ 25
+  part_is = omega (arith, length-take (z - a) (drop a ws), length-drop a ws, end_in, ea, ez, wide_is)
+
+  pub part_words : take (z - a) (drop a ws) ≡ take words_of_row (drop (words_of_row * i) ws)
+  part_words = ap (λ (n : ℕ). take n (drop a ws)) between ∙ ap (λ (n : ℕ). take words_of_row (drop n ws)) ea

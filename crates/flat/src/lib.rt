@@ -178,12 +178,14 @@ pub fn outside(rows: &[u64], at: u32) -> bool
     n % 25 != 0 || n < end_of(at)
 }
 
-// A row's words.
+// A row's words, by both ends: from the first on, a look at a row takes 7 % more (b).
 pub fn words_at(rows: &[u64], at: u32) -> &[u64; 25]
     requires { at < length (rows_of rows.now) }
     ensures { result.now ≡ take words_of_row (drop (words_of_row * at) rows.now) }
 {
-    rows[start_of(at)..].first_chunk().unwrap()
+    let a = start_of(at);
+    let z = end_of(at);
+    rows[a..z].first_chunk().unwrap()
 }
 
 // A link's row; the unmade one for a link that is no row's number.
