@@ -83,6 +83,10 @@ pub record Going (a b : Held) (x y : Option (List ℕ)) (failed : Bool) : Type 0
 pub going_start : (a : Held) (x : Option (List ℕ)) (f : Bool) → Going a a x x f
 going_start a x f = record { text = []; turns = none; written = λ _. Appends-nil x }
 
+-- a sink that had failed stays as it is, turn by turn
+pub still_failed : {W : Type 0} (r s t : Stream W) → (sink_failed r ≡ true → s ≡ r) → (sink_failed s ≡ true → t ≡ s) → sink_failed r ≡ true → t ≡ r
+still_failed r s t f g h = let e = f h in g (ap sink_failed e ∙ h) ∙ e
+
 module _ {W : Type 0} (contents : W → Option (List ℕ)) (s t : Stream W) (h : sink_failed s ≡ true → t ≡ s) where
   -- after an error the sink stays as it is
   was_sound : sink_failed t ≡ false → sink_failed s ≡ false

@@ -3,9 +3,11 @@ ghost use Rattle.std.specs.Prelude.{◌≡◌, true, false};
 ghost use Rattle.std.specs.Io.KnownBytes.{Appends};
 ghost use Rattle.lines.specs.Streams.{held_by, sink_failed};
 ghost use Rattle.lending.specs.Lendings.{Room, lent_to};
+ghost use Rattle.lending.specs.Same.{SameLent};
 ghost use Rattle.print.specs.Print.{SameBuffer, Adds};
 ghost use Rattle.calls.specs.Inputs.{Came, number_of, written_of, tick_of, Answered};
 ghost use Rattle.calls.specs.Turns.{held, Stepped, Told};
+ghost use Rattle.calls.specs.Same.{SameList, SameOut};
 
 use crate::output::Output;
 use answers::Reply;
@@ -26,6 +28,7 @@ fn tell(
     requires { Room w.old.rows.now w.old.cells.now }
     ensures comes { Came line asked w.old.size w.old.rows.now w.old.cells.now w.old.ends.now w.new.size w.new.rows.now w.new.cells.now w.new.ends.now result }
     ensures room { Room w.new.rows.now w.new.cells.now }
+    ensures same { SameLent w.old w.new }
 {
     match line {
         Line::At { .. } => session::answer(w, asked),
@@ -65,6 +68,7 @@ fn answer<W: Write>(w: &mut Watch<'_>, out: &mut Output<'_, W>, line: Line, byte
     ensures written { sink_failed out.new.to.now ≡ false → Appends (held_by W.contents out.old.to.now) (held_by W.contents out.new.to.now) (written_of out.old.text.out.now out.old.text.n) }
     ensures failed { sink_failed out.old.to.now ≡ true → out.new.to.now ≡ out.old.to.now }
     ensures room { Room w.new.rows.now w.new.cells.now }
+    ensures same { SameLent w.old w.new × SameOut out.old out.new }
 {
     let asked = grammar::read(bytes);
     let reply = tell(w, line, asked);
@@ -80,6 +84,7 @@ fn step<R: Read, W: Write>(list: &mut Lines<'_, R>, w: &mut Watch<'_>, out: &mut
     ensures written { sink_failed out.new.to.now ≡ false → Appends (held_by W.contents out.old.to.now) (held_by W.contents out.new.to.now) (written_of out.old.text.out.now out.old.text.n) }
     ensures failed { sink_failed out.old.to.now ≡ true → out.new.to.now ≡ out.old.to.now }
     ensures room { Room w.new.rows.now w.new.cells.now }
+    ensures same { SameList list.old list.new × SameLent w.old w.new × SameOut out.old out.new }
 {
     let line = list.next_line();
     out.lines = number_of(line, out.lines);
@@ -91,7 +96,10 @@ fn step<R: Read, W: Write>(list: &mut Lines<'_, R>, w: &mut Watch<'_>, out: &mut
 // Crate `vectors` has such a loop too: a common one would take the step as a closure with its contract over list, watch and output (d).
 pub fn run<R: Read, W: Write>(list: &mut Lines<'_, R>, w: &mut Watch<'_>, out: &mut Output<'_, W>)
     requires { Room w.old.rows.now w.old.cells.now }
-    ensures { sink_failed out.new.to.now ≡ false → Told (held list.old w.old out.old) (held_by W.contents out.old.to.now) (held_by W.contents out.new.to.now) }
+    ensures told { sink_failed out.new.to.now ≡ false → Told (held list.old w.old out.old) (held_by W.contents out.old.to.now) (held_by W.contents out.new.to.now) }
+    ensures failed { sink_failed out.old.to.now ≡ true → out.new.to.now ≡ out.old.to.now }
+    ensures room { Room w.new.rows.now w.new.cells.now }
+    ensures same { SameList list.old list.new × SameLent w.old w.new × SameOut out.old out.new }
 {
     let _ = session::watch(w, 1);
     for _ in 0..u64::MAX {

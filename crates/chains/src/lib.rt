@@ -297,12 +297,12 @@ pub fn part_at<W: Lent>(rows: &[W], at: Option<u32>) -> Part
 // ---- fresh rows
 
 // Every row becomes fresh, row i of n, in the free chain in ascending number.
-pub fn fresh_rows<W: Lent>(rows: &mut [W])
+pub fn fresh_rows<W: Lent>(rows: &mut [W], n: usize)
     requires { W.can_make (length (W.rows_in rows.old)) }
-    ensures { W.rows_in rows.new ≡ fresh_from (length (W.rows_in rows.old)) 0 (length (W.rows_in rows.old)) }
+    ensures { W.rows_in rows.new ≡ fresh_from n 0 (length (W.rows_in rows.old)) }
 {
-    let n = W::count(rows);
-    for i in 0..n {
+    let there = W::count(rows);
+    for i in 0..there {
         W::make(rows, i, rows::fresh_row(n, i));
     }
 }

@@ -1,6 +1,6 @@
 -- What a row's 25 words open as, by the tests that the code makes of them and of what is left of them from a place on.
 use Rattle.std.specs.Prelude.{Option}
-use mathlib.Core.Path.{◌≡◌, refl, sym, ◌∙◌, subst}
+use mathlib.Core.Path.{◌≡◌, refl, sym, ◌∙◌, ap, subst}
 use Prim.Native.Nat.{ℕ, ◌+◌, ◌-◌}
 use native.Mathlib.Omega.{arith}
 use mathlib.Core.Bool.{Bool, true, false, ◌&&◌}
@@ -14,9 +14,14 @@ use Rattle.sites.specs.declared.Site.{Site}
 use Rattle.verdicts.specs.declared.Verdict.{Verdict}
 use Rattle.heard.specs.declared.Heard.{Heard}
 use Rattle.rows.specs.declared.Row.{Row}
-use Rattle.flat.specs.Words.{numbers_fit, row_fits, heard_of, row_of, junk, opened_of}
-use Rattle.packing.specs.Words.{most32, most64, low32, key_of, maybe_fits, site_of, site_fits, id_of, verdict_of, verdict_fits}
+use Rattle.flat.specs.Words.{numbers_fit, row_fits, head_fits, heard_of, row_of, junk, opened_of}
+use Rattle.packing.specs.Words.{most32, most64, low32, wide2, key_of, maybe_fits, site_of, site_fits, id_of, verdict_of, verdict_fits}
 use Rattle.packing.proofs.Tests.{wide}
+
+behind_three : (a b c d : Bool) → ((a && (b && c)) && d) ≡ (a && (b && (c && d)))
+behind_three true true c d = refl
+behind_three true false c d = refl
+behind_three false b c d = refl
 
 module _ (ws : List ℕ) where
   -- the words from the i-th on are all that is left
@@ -28,11 +33,20 @@ module _ (ws : List ℕ) where
   numbers_told r e = simp (e, left 10, left 12, left 23)
 
   -- the key's words and the degrees are in range by their type
-  pub fits_by_parts : ((i : ℕ) → Fits w64 (get_or ws i 0)) → (r : Bool)
-      → r ≡ ((leb (get_or ws 9 0) most32 && (leb (get_or ws 21 0) most32 && leb (get_or ws 22 0) most32)) && (site_fits (take (length ws - 4) (drop 4 ws)) && (numbers_fit ws && verdict_fits (take (length ws - 14) (drop 14 ws)))))
-      → r ≡ row_fits ws
+  pub head_told : ((i : ℕ) → Fits w64 (get_or ws i 0)) → (r : Bool)
+      → r ≡ ((leb (get_or ws 9 0) most32 && (leb (get_or ws 21 0) most32 && leb (get_or ws 22 0) most32)) && site_fits (take (length ws - 4) (drop 4 ws))) → r ≡ head_fits ws
+  head_told f r e = simp (e, left 4, wide ws f, wide (drop 2 ws) (λ i. subst (Fits w64) (sym (get_or-drop 2 ws i 0)) (f (2 + i))))
+
+  -- a row fits by its head, its numbers and its verdict
+  pub row_in_parts : (head_fits ws && (numbers_fit ws && verdict_fits (drop 14 ws))) ≡ row_fits ws
   unfolding row_fits
-  fits_by_parts f r e = simp (e, left 4, left 14, wide ws f, wide (drop 2 ws) (λ i. subst (Fits w64) (sym (get_or-drop 2 ws i 0)) (f (2 + i))))
+  row_in_parts =
+      let k = wide2 ws && wide2 (drop 2 ws) in
+      let l = leb (get_or ws 9 0) most32 && (leb (get_or ws 21 0) most32 && leb (get_or ws 22 0) most32) in
+      behind_three k l (site_fits (drop 4 ws)) (numbers_fit ws && verdict_fits (drop 14 ws))
+
+  pub fits_by_parts : (r : Bool) → r ≡ (head_fits ws && (numbers_fit ws && verdict_fits (take (length ws - 14) (drop 14 ws)))) → r ≡ row_fits ws
+  fits_by_parts r e = e ∙ ap (λ (v : List ℕ). head_fits ws && (numbers_fit ws && verdict_fits v)) (left 14) ∙ row_in_parts
 
 module _ (ws : List ℕ) (long : length ws ≡ 25) where
   -- the n words from the i-th on are all that is left

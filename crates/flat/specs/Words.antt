@@ -31,6 +31,10 @@ row_fits ws =
     && ((leb (at ws 9) most32 && (leb (at ws 21) most32 && leb (at ws 22) most32))
     && (site_fits (drop 4 ws) && (numbers_fit ws && verdict_fits (drop 14 ws))))
 
+-- the same of key, site, generation and links alone
+abbrev pub head_fits : List ℕ → Bool
+head_fits ws = (wide2 ws && wide2 (drop 2 ws)) && ((leb (at ws 9) most32 && (leb (at ws 21) most32 && leb (at ws 22) most32)) && site_fits (drop 4 ws))
+
 abbrev pub heard_of : List ℕ → Heard
 heard_of ws = record { site = site_of (drop 4 ws); generation = low32 (at ws 9); even = id_of (drop 10 ws); odd = id_of (drop 12 ws) }
 

@@ -7,7 +7,7 @@ ghost use Rattle.std.specs.Prelude.{◌≡◌, ◌&&◌, ◌∷◌, ◌<◌, ◌
 ghost use Rattle.std.proofs.lemmas.List.Edits.{sets};
 ghost use Rattle.rows.specs.Links.{blank};
 ghost use Rattle.flat.specs.Words as row;
-ghost use Rattle.flat.specs.Words.{words_of_row, closed_of, row_fits, row_of, opened_of};
+ghost use Rattle.flat.specs.Words.{words_of_row, closed_of, row_fits, head_fits, row_of, opened_of};
 ghost use Rattle.flat.specs.Ranges.{HeardIn, RowIn};
 ghost use Rattle.flat.specs.Table.{rows_of};
 ghost use Rattle.packing.specs.Words.{most32, id_words};
@@ -77,15 +77,19 @@ pub fn numbers_fit(words: &[u64]) -> bool
         && <Option<u64>>::fit(&words[23..])
 }
 
-// Any two words are degrees, and any four a key.
+// Its key, site, generation and links: any two words are degrees, and any four a key.
+pub fn head_fits(words: &[u64]) -> bool
+    requires { 25 ≤ length words.now }
+    ensures { result ≡ head_fits words.now }
+{
+    links_fit(words) && <Option<Site>>::fit(&words[4..])
+}
+
 pub fn row_fits(words: &[u64]) -> bool
     requires { 25 ≤ length words.now }
     ensures { result ≡ row_fits words.now }
 {
-    links_fit(words)
-        && <Option<Site>>::fit(&words[4..])
-        && numbers_fit(words)
-        && <Option<Verdict>>::fit(&words[14..])
+    head_fits(words) && numbers_fit(words) && <Option<Verdict>>::fit(&words[14..])
 }
 
 // No `From`: `Heard` and `Row` are other crates', so none can stand here or below (d).

@@ -3,7 +3,7 @@
 
 ghost use Rattle.std.specs.Prelude.{◌≡◌, Bool, List, ℕ, T, Option, None, length};
 ghost use Rattle.measures.specs.Steps.{distance};
-ghost use Rattle.view.specs.View.{Unheard};
+ghost use Rattle.view.specs.View.{Unheard, grid_of};
 ghost use Rattle.view.specs.declared.Far.{Far};
 ghost use Rattle.nearest.specs.Nothing.{nothing_near};
 ghost use Rattle.around.specs.Marks.{outside_of};
@@ -91,6 +91,16 @@ fn judge_far(site: Site, far: Far) -> Judgment
     )
 }
 
+// The judging of the merged grid and bins. Not laid into its caller: the 13 KB that it works in are cleared on entry, and there it would be the entry of
+// every judging, some 100 ns also where no grid is merged.
+#[inline(never)]
+fn judge_grid(site: Site, halves: Halves, far: Far) -> Judgment
+    ensures { result ≡ judge_cells site (grid_of halves.entry.cells.now halves.entry.even halves.entry.odd) far }
+{
+    let grid = halves.grid_view();
+    judge_cells(site, Merged { grid: &grid, far })
+}
+
 // The judging of a row's cells. Where no half is merged there is no place, and nothing need be looked at; where no cell of the
 // grid is occupied the bins alone are judged.
 fn judge_row(site: Site, halves: Halves) -> Judgment
@@ -101,8 +111,7 @@ fn judge_row(site: Site, halves: Halves) -> Judgment
     if even || odd {
         let far = halves.far_view();
         if halves.grid_heard() {
-            let grid = halves.grid_view();
-            return judge_cells(site, Merged { grid: &grid, far });
+            return judge_grid(site, halves, far);
         }
         return judge_far(site, far);
     }

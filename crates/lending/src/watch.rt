@@ -22,6 +22,7 @@ impl<'a> Watch<'a> {
     ghost use Rattle.std.specs.Prelude.{◌≡◌, ◌*◌, [], ◌∷◌, length, take};
     ghost use Rattle.lending.specs.Lendings.{Room, lent_to, no_ends, Lends, RowSet, CellSet, Applied};
     ghost use Rattle.lending.specs.Digests.{digest_of};
+    ghost use Rattle.lending.specs.Same.{SameLent};
 
     // lend C N: C rows as unmade, N empty cells, no ends; an error leaves all as it was.
     #[tactic(auto, using(crate::proofs::Writing::lendable_within, crate::proofs::Writing::lends_not, crate::proofs::Writing::lends_is))]
@@ -29,6 +30,7 @@ impl<'a> Watch<'a> {
         requires { Room self.old.rows.now self.old.cells.now }
         ensures lends { Lends c n self.old.size self.old.rows.now self.old.cells.now self.old.ends.now self.new.size self.new.rows.now self.new.cells.now self.new.ends.now result }
         ensures long { (length self.new.rows.now ≡ length self.old.rows.now) × (length self.new.cells.now ≡ length self.old.cells.now) }
+        ensures same { SameLent self.old self.new }
     {
         let size = crate::may_lend(c, n)?;
         self.size = size;
@@ -46,6 +48,7 @@ impl<'a> Watch<'a> {
         ensures set { RowSet self.old.size at row self.old.rows.now self.new.rows.now result }
         ensures long { length self.new.rows.now ≡ length self.old.rows.now }
         ensures kept { (self.new.size ≡ self.old.size) × (self.new.cells.now ≡ self.old.cells.now) × (self.new.ends.now ≡ self.old.ends.now) }
+        ensures same { SameLent self.old self.new }
     {
         if at >= self.size.rows {
             return Err(Fault::NoSuchRow);
@@ -61,6 +64,7 @@ impl<'a> Watch<'a> {
         ensures set { CellSet self.old.size at word self.old.cells.now self.new.cells.now result }
         ensures long { length self.new.cells.now ≡ length self.old.cells.now }
         ensures kept { (self.new.size ≡ self.old.size) × (self.new.rows.now ≡ self.old.rows.now) × (self.new.ends.now ≡ self.old.ends.now) }
+        ensures same { SameLent self.old self.new }
     {
         if at >= self.size.cells {
             return Err(Fault::NoSuchCell);
@@ -73,6 +77,7 @@ impl<'a> Watch<'a> {
     pub fn set_ends(&mut self, first: u32, last: u32, free: u32)
         ensures set { self.new.ends.now ≡ first ∷ last ∷ free ∷ [] }
         ensures kept { (self.new.size ≡ self.old.size) × (self.new.rows.now ≡ self.old.rows.now) × (self.new.cells.now ≡ self.old.cells.now) }
+        ensures same { SameLent self.old self.new }
     {
         let three = [first, last, free];
         *self.ends = three;
@@ -82,6 +87,7 @@ impl<'a> Watch<'a> {
     pub fn no_ends(&mut self)
         ensures set { self.new.ends.now ≡ no_ends }
         ensures kept { (self.new.size ≡ self.old.size) × (self.new.rows.now ≡ self.old.rows.now) × (self.new.cells.now ≡ self.old.cells.now) }
+        ensures same { SameLent self.old self.new }
     {
         let n = scans::no_row();
         self.set_ends(n, n, n);
@@ -93,6 +99,7 @@ impl<'a> Watch<'a> {
         requires { Room self.old.rows.now self.old.cells.now }
         ensures applied { Applied asked key.bytes self.old.size self.old.rows.now self.old.cells.now self.old.ends.now self.new.size self.new.rows.now self.new.cells.now self.new.ends.now result }
         ensures room { Room self.new.rows.now self.new.cells.now }
+        ensures same { SameLent self.old self.new }
     {
         match asked {
             Change::Lend { rows, cells } => self.lend(rows, cells),

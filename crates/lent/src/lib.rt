@@ -163,7 +163,7 @@ pub fn fresh<W: Lent>(rows: &mut [W], cells: &mut [u32], ends: &mut [u32; 3]) ->
     if !rows::sizes_fit(n, cells.len()) {
         return Err(Refusal::Sizes);
     }
-    chains::fresh_rows(rows);
+    chains::fresh_rows(rows, n);
     bodies::fresh_cells(cells);
     *ends = scans::fresh_ends().into();
     Ok(Word::Done)

@@ -46,13 +46,20 @@ const START: Input = Input {
     more: true,
 };
 
+// `start`, `next_line` and `bytes` are for callers that keep the source and the buffer by themselves; `Lines` holds both, by way of them.
+pub fn start() -> Input
+    ensures { result ≡ start_of }
+{
+    START
+}
+
 // A source, its buffer, and where the bytes that wait lie in it.
 #[derive(Drop)]
 pub struct Lines<'a, R> {
     pub source: Source<R>,
     pub buf: &'a mut [u8],
     pub input: Input,
-    ghost within: { Within input buf.now },
+    pub ghost within: { Within input buf.now },
 }
 
 // A whole line, given that it is not too long.
@@ -99,6 +106,82 @@ fn kept(s: Input) -> Input
     }
 }
 
+// The next line of those that were read, its line end passed over; nothing where no line is whole.
+fn taken(s: Input, buf: &[u8]) -> Step
+    requires { Within s buf.now }
+    ensures { (result ≡ taken_of s buf.now) × Within result.input buf.now }
+{
+    let Some(n) = fields::first_place(&buf[s.at..s.have], b'\n') else {
+        return Step {
+            input: s,
+            line: Line::Nothing,
+        };
+    };
+    let end = s.at + n;
+    Step {
+        input: Input {
+            at: end + 1,
+            have: s.have,
+            ..START
+        },
+        line: whole(s.long, s.at, end),
+    }
+}
+
+// Reads on behind the bytes that are left, which are moved to the front. Where nothing came they are the last line.
+fn refill<R: Read>(s: Input, from: &mut Source<R>, buf: &mut [u8]) -> Step
+    requires { Within s buf.old }
+    ensures is { (Within result.input buf.new) × (Refilled s result) }
+    ensures came { ReadOn s (left_in R.remaining from.old) (left_in R.remaining from.new) buf.old buf.new result }
+    ensures failed { source_failed from.old ≡ true → from.new ≡ from.old }
+{
+    let k = kept(s);
+    let left = fields::to_front(buf, k.at, k.have);
+    let came = from.read(&mut buf[left..]);
+    if came == 0 {
+        return Step {
+            input: Input {
+                more: false,
+                ..START
+            },
+            line: last(left, k.long),
+        };
+    }
+    Step {
+        input: Input {
+            have: left + came,
+            long: k.long,
+            ..START
+        },
+        line: Line::Nothing,
+    }
+}
+
+// The next line, or more bytes where no line is whole. After the last line `more` is false.
+pub fn next_line<R: Read>(s: Input, from: &mut Source<R>, buf: &mut [u8]) -> Step
+    requires { Within s buf.old }
+    ensures next { (Within result.input buf.new) × (Next s (taken_of s buf.old) result (taken_of s buf.old).line) }
+    ensures whole { ((taken_of s buf.old).line ≡ Line.Nothing → ⊥) → (from.new ≡ from.old) × (buf.new ≡ buf.old) }
+    ensures came { (taken_of s buf.old).line ≡ Line.Nothing → ReadOn s (left_in R.remaining from.old) (left_in R.remaining from.new) buf.old buf.new result }
+    ensures failed { source_failed from.old ≡ true → from.new ≡ from.old }
+{
+    let t = taken(s, buf);
+    match t.line {
+        Line::Nothing => refill(s, from, buf),
+        Line::TooLong | Line::At { .. } => t,
+    }
+}
+
+// The bytes of a line, none where there is no whole one.
+pub fn bytes(line: Line, buf: &[u8]) -> &[u8]
+    ensures { result.now ≡ bytes_of buf.now line }
+{
+    match line {
+        Line::At { start, end } => fields::part(buf, start, end),
+        Line::TooLong | Line::Nothing => &[],
+    }
+}
+
 impl<'a, R: Read> Lines<'a, R> {
     // Nothing was read yet.
     pub fn new(source: Source<R>, buf: &'a mut [u8]) -> Lines<'a, R>
@@ -110,55 +193,8 @@ impl<'a, R: Read> Lines<'a, R> {
         Lines {
             source,
             buf,
-            input: START,
+            input: start(),
         }
-    }
-
-    // The next line of those that were read, its line end passed over; nothing where no line is whole.
-    fn taken(&self) -> Step
-        ensures { (result ≡ taken_of self.now.input self.now.buf.now) × Within result.input self.now.buf.now }
-    {
-        let s = self.input;
-        let Some(n) = fields::first_place(&self.buf[s.at..s.have], b'\n') else {
-            return Step {
-                input: s,
-                line: Line::Nothing,
-            };
-        };
-        let end = s.at + n;
-        Step {
-            input: Input {
-                at: end + 1,
-                have: s.have,
-                ..START
-            },
-            line: whole(s.long, s.at, end),
-        }
-    }
-
-    // Reads on behind the bytes that are left, which are moved to the front. Where nothing came they are the last line.
-    fn refill(&mut self) -> Line
-        ensures is { Refilled self.old.input (record { input = self.new.input; line = result }) }
-        ensures came { ReadOn self.old.input (left_in R.remaining self.old.source) (left_in R.remaining self.new.source) self.old.buf.now self.new.buf.now (record { input = self.new.input; line = result }) }
-        ensures failed { source_failed self.old.source ≡ true → self.new.source ≡ self.old.source }
-        ensures buffer { (self.new.buf.ghost_name ≡ self.old.buf.ghost_name) × (length self.new.buf.now ≡ length self.old.buf.now) }
-    {
-        let k = kept(self.input);
-        let left = fields::to_front(self.buf, k.at, k.have);
-        let came = self.source.read(&mut self.buf[left..]);
-        if came == 0 {
-            self.input = Input {
-                more: false,
-                ..START
-            };
-            return last(left, k.long);
-        }
-        self.input = Input {
-            have: left + came,
-            long: k.long,
-            ..START
-        };
-        Line::Nothing
     }
 
     // The next line, or more bytes where no line is whole. After the last line `more` is false.
@@ -169,24 +205,16 @@ impl<'a, R: Read> Lines<'a, R> {
         ensures failed { source_failed self.old.source ≡ true → self.new.source ≡ self.old.source }
         ensures buffer { (self.new.buf.ghost_name ≡ self.old.buf.ghost_name) × (length self.new.buf.now ≡ length self.old.buf.now) }
     {
-        let t = self.taken();
-        match t.line {
-            Line::Nothing => self.refill(),
-            Line::TooLong | Line::At { .. } => {
-                self.input = t.input;
-                t.line
-            }
-        }
+        let next = next_line(self.input, &mut self.source, self.buf);
+        self.input = next.input;
+        next.line
     }
 
     // The bytes of a line, none where there is no whole one.
     pub fn bytes(&self, line: Line) -> &[u8]
         ensures { result.now ≡ bytes_of self.now.buf.now line }
     {
-        match line {
-            Line::At { start, end } => fields::part(self.buf, start, end),
-            Line::TooLong | Line::Nothing => &[],
-        }
+        bytes(line, self.buf)
     }
 
     // More may come: the input has not ended.

@@ -37,7 +37,7 @@ scaled s m e t f small =
 
 -- ---- a value below a bound, and cut to a whole number; a negative one is above -1
 
-under : (x a d c b : ℕ) → 0 < c → 0 < d → x * c ≡ a * d → a < b * c → x < b * d
+pub under : (x a d c b : ℕ) → 0 < c → 0 < d → x * c ≡ a * d → a < b * c → x < b * d
 under x a d c b C D e h = lt_of_mul-lt-mul_right c (lt_of_le_of_lt (le_of_eq e) (lt_of_lt_of_le (mul-lt-mul_of_pos_right h D) (le_of_eq (mul_right_comm b c d))))
 
 below : (x b d : ℕ) → x < b * d → x * 1 < 1 * b * d

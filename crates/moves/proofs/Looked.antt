@@ -36,7 +36,7 @@ use Rattle.rows.specs.Read.{form, fits, row_is, watch_of, watch_is, looked_in, L
 use Rattle.scans.specs.Ends.{ends_of, ends_is}
 use Rattle.rows.specs.Links.{blank, part_at, room_ends, seat_of}
 use Rattle.rows.proofs.Chains.{rows_long_lem, row_is_lem}
-use Rattle.rows.proofs.Passed.{Passed, passed, no_ok, one_ok}
+use Rattle.rows.proofs.Passed.{Passed, passed, no_ok, one_ok, one_err}
 use Rattle.moves.specs.Answers.{outcome}
 use Rattle.scans.specs.declared.Key.{Key}
 use Rattle.scans.specs.declared.Ends.{Ends}
@@ -127,6 +127,20 @@ module _ (xs : List Row) (ys ws : List ℕ) (e : Ends) (key : Key) (l : Result �
 
   pub claim_passed : (o : Option ℕ) → claimable l ≡ Ok o → Passed w
   claim_passed o fit = passed w key.bytes o (ap claimable (sym (seen ys refl)) ∙ fit)
+
+  -- 1 to 3: no row was found
+  pub no_step : (a : Act) → ((o : Outcome (Body Part) Out) → on_none kind siting w key.bytes (kind a) o ≡ refusal w 3) → (x : Refusal) → l ≡ Err x → stepped a ≡ refusal w (number_of x)
+  no_step a three x q =
+      stepped_is a ∙ ap (λ (z : Result ℕ Refusal). by_look w key.bytes a z) q
+      ∙ by_bool (eqb (number_of x) 3) (λ y. rw y (three _ ∙ ap {B = Step (Watch Part) Out} (λ n. refusal w n) (sym (eqb_true (number_of x) 3 y)))) (λ y. rw y)
+
+  -- 1 and 2: a claim is not asked 3
+  pub claim_step : (site : Option Site) (x : Refusal) → claimable l ≡ Err x → stepped (claim site) ≡ refusal w (number_of x)
+  claim_step site x q = go l (stepped_is (claim site)) q
+    where
+      go : (z : Result ℕ Refusal) → stepped (claim site) ≡ by_look w key.bytes (claim site) z → claimable z ≡ Err x → stepped (claim site) ≡ refusal w (number_of x)
+      go (Ok i) p h = no_ok h
+      go (Err r) p h = by_bool (eqb (number_of r) 3) (λ y. no_ok (rw y at h)) (λ y. p ∙ rw y (ap {B = Step (Watch Part) Out} (λ z. refusal w (number_of z)) (one_err (rw y at h))))
 
   -- QUESTIONS 1 AND 2 ARE PASSED
   module _ (pass : Passed w) where

@@ -40,6 +40,7 @@ use Rattle.rows.specs.Links.{blank, with_part, part_at, parted_rows, released_ro
 use Rattle.rows.proofs.Chains.{row_is_lem, unlinked_long, free_is_lem, touch_is, put_is, take_is, room_is}
 use Rattle.moves.specs.declared.Word.TheVariants as Wd
 use Rattle.moves.specs.Answers.{Answer, answer_is, outcome, check_answer}
+use Rattle.moves.specs.Moves.{heard_part}
 use Rattle.moves.proofs.Looked as Look'
 use Rattle.moves.proofs.Looked.{body_of}
 use Rattle.rows.proofs.Passed.{Passed}
@@ -55,10 +56,6 @@ claim_body p c m = record { part = claim_part p c; cells = cond c.moved empty_ce
 
 claim_done_lem : (p : Part) (c : Claiming) (m : List ℕ) → claim_done p (claiming_is (Ok c) m) ≡ accept (claim_body p c m) (generation_is c.heard.generation)
 claim_done_lem p c m = by_bool c.moved (λ y. rw y) (λ y. rw y)
-
--- a part that keeps all but what was heard
-abbrev pub heard_part : Part → Heard → Part
-heard_part p h = record { heard = h; verdict = p.verdict; judged_ms = p.judged_ms }
 
 -- a row's cells, moved or kept, written back
 cells_back : (ys : List ℕ) (i : ℕ) (b : Bool) → width * i + width ≤ length ys → cond b (sets ys (width * i) empty_cells) ys ≡ sets ys (width * i) (cond b empty_cells (take width (drop (width * i) ys)))

@@ -65,6 +65,15 @@ piece_by n (Err e) r = Err (fault.Stray e.sep)
 unfoldable pub piece : Name → Read (List ℕ)
 piece n r = piece_by n (field_at r.sep r.text r.at) r
 
+-- where a reader stands that has read one field, whatever the field came to: behind it; where there is none, or a stray separator, it stays
+abbrev pub next_or : ℕ → Result (Option Piece) Stray → ℕ
+next_or at (Ok (Some f)) = f.next
+next_or at (Ok None) = at
+next_or at (Err e) = at
+
+abbrev pub past : Reading → Reading
+past r = record r { at = next_or r.at (field_at r.sep r.text r.at) }
+
 -- what the bytes say, if they say something
 abbrev pub said_by : {A : Type 0} → Fault → Option A → Read A
 said_by f (Some x) r = Ok (x, r)

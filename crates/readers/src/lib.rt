@@ -2,11 +2,11 @@
 // The kinds of lines stand above, in `grammar`.
 #![tactic(auto)]
 
-ghost use Rattle.std.specs.Prelude.{◌≡◌, ◌^◌, ◌-◌, ℕ, List, Option};
+ghost use Rattle.std.specs.Prelude.{◌≡◌, ◌≤◌, ◌^◌, ◌-◌, ℕ, List, Option, IfOk, IfSome};
 ghost use Rattle.numbers.specs.Numbers.{whole_of, signed_of};
 ghost use Rattle.reals.specs.Reals.{real_of};
 ghost use Rattle.readers.specs.declared.Fault.TheVariants.{Stray};
-ghost use Rattle.readers.specs.Fields.{start_at, parts_of, left, left_bytes, left_some, as_last, as_flag, as_row, piece, unless_dash, field, optional, feet, key, ended, two, four, site_from, claim, site_parts, site, verdict_parts, verdict, heard, part, link, links, clock};
+ghost use Rattle.readers.specs.Fields.{start_at, parts_of, left, left_bytes, left_some, as_last, as_flag, as_row, piece, past, unless_dash, field, optional, feet, key, ended, two, four, site_from, claim, site_parts, site, verdict_parts, verdict, heard, part, link, links, clock};
 
 use fields::Stray;
 use heard::Heard;
@@ -204,7 +204,8 @@ impl<'a> Reader<'a> {
     // The next field's bytes.
     #[tactic(auto, unfolding(crate::specs::Fields::piece))]
     fn piece(&mut self, name: Name) -> Result<&'a [u8], Fault>
-        ensures { left_bytes result self.new ≡ piece name self.old }
+        ensures comes_to { left_bytes result self.new ≡ piece name self.old }
+        ensures stands { self.new ≡ past self.old }
     {
         let Some(f) = fields::next_field(self.text, self.at, self.sep)? else {
             return Err(Fault::Missing(name));
@@ -216,7 +217,8 @@ impl<'a> Reader<'a> {
     // The same, none where they are `-`.
     #[tactic(auto, using(fields::proofs::Lines::same_is), unfolding(crate::specs::Fields::unless_dash))]
     fn unless_dash(&mut self, name: Name) -> Result<Option<&'a [u8]>, Fault>
-        ensures { left_some result self.new ≡ unless_dash name self.old }
+        ensures comes_to { left_some result self.new ≡ unless_dash name self.old }
+        ensures stands { self.new ≡ past self.old }
     {
         let s = self.piece(name)?;
         if s == b"-".as_slice() {
@@ -228,7 +230,8 @@ impl<'a> Reader<'a> {
     // What the next field says.
     #[tactic(auto, unfolding(crate::specs::Fields::field))]
     pub fn field<T: FromField>(&mut self, name: Name) -> Result<T, Fault>
-        ensures { left result self.new ≡ field T.reads name self.old }
+        ensures comes_to { left result self.new ≡ field T.reads name self.old }
+        ensures stands { self.new ≡ past self.old }
     {
         let said = self.piece(name)?;
         T::from_field(said).ok_or(Fault::NotNumber(name))
@@ -237,7 +240,8 @@ impl<'a> Reader<'a> {
     // The same, none where it is `-`.
     #[tactic(auto, unfolding(crate::specs::Fields::optional))]
     pub fn optional<T: FromField>(&mut self, name: Name) -> Result<Option<T>, Fault>
-        ensures { left result self.new ≡ optional T.reads name self.old }
+        ensures comes_to { left result self.new ≡ optional T.reads name self.old }
+        ensures stands { self.new ≡ past self.old }
     {
         let Some(s) = self.unless_dash(name)? else {
             return Ok(None);
@@ -245,16 +249,42 @@ impl<'a> Reader<'a> {
         Ok(Some(T::from_field(s).ok_or(Fault::NotNumber(name))?))
     }
 
+    // A decimal number up to `most`, and the same or none where it is `-`.
+    #[tactic(auto, using(numbers::proofs::Values::whole_within), unfolding(crate::specs::Fields::field))]
+    pub fn whole(&mut self, most: u64, name: Name) -> Result<u64, Fault>
+        ensures comes_to { left result self.new ≡ field (whole_of most) name self.old }
+        ensures most { IfOk result (λ n. n ≤ most) }
+        ensures stands { self.new ≡ past self.old }
+    {
+        let digits = self.piece(name)?;
+        numbers::read_whole(digits, most).ok_or(Fault::NotNumber(name))
+    }
+
+    #[tactic(auto, using(numbers::proofs::Values::whole_within), unfolding(crate::specs::Fields::optional))]
+    pub fn maybe(&mut self, most: u64, name: Name) -> Result<Option<u64>, Fault>
+        ensures comes_to { left result self.new ≡ optional (whole_of most) name self.old }
+        ensures most { IfOk result (λ m. IfSome m (λ n. n ≤ most)) }
+        ensures stands { self.new ≡ past self.old }
+    {
+        let Some(written) = self.unless_dash(name)? else {
+            return Ok(None);
+        };
+        let n = numbers::read_whole(written, most).ok_or(Fault::NotNumber(name))?;
+        Ok(Some(n))
+    }
+
     // FEET, or none.
     pub fn feet(&mut self) -> Result<Option<i32>, Fault>
-        ensures { left result self.new ≡ feet self.old }
+        ensures comes_to { left result self.new ≡ feet self.old }
+        ensures stands { self.new ≡ past self.old }
     {
         self.optional(Name::Feet)
     }
 
     #[tactic(auto, unfolding(crate::specs::Fields::key))]
     pub fn key(&mut self) -> Result<[u8; 32], Fault>
-        ensures { left result self.new ≡ key self.old }
+        ensures comes_to { left result self.new ≡ key self.old }
+        ensures stands { self.new ≡ past self.old }
     {
         let s = self.piece(Name::Key)?;
         keys::read_key(s).ok_or(Fault::NotKey)
@@ -263,7 +293,8 @@ impl<'a> Reader<'a> {
     // Nothing follows the last field.
     #[tactic(auto, unfolding(crate::specs::Fields::ended))]
     pub fn ended(&mut self, last: Name) -> Result<(), Fault>
-        ensures { left result self.new ≡ ended last self.old }
+        ensures comes_to { left result self.new ≡ ended last self.old }
+        ensures stands { self.new ≡ self.old }
     {
         match fields::next_field(self.text, self.at, self.sep)? {
             Some(_) => Err(Fault::Extra(last)),
@@ -276,7 +307,8 @@ impl<'a> Reader<'a> {
     // Two real numbers. Not one with `links`: a link is a row number or `-` (d).
     #[tactic(auto, unfolding(crate::specs::Fields::two))]
     pub fn two(&mut self, first: Name, second: Name) -> Result<(f64, f64), Fault>
-        ensures { left result self.new ≡ two first second self.old }
+        ensures comes_to { left result self.new ≡ two first second self.old }
+        ensures kept { (self.new.text ≡ self.old.text) × (self.new.sep ≡ self.old.sep) }
     {
         let a = self.field(first)?;
         let b = self.field(second)?;
@@ -286,7 +318,8 @@ impl<'a> Reader<'a> {
     // LAT1 LON1 LAT2 LON2: four, as `sites::place` takes them (a).
     #[tactic(auto, unfolding(crate::specs::Fields::four))]
     pub fn four(&mut self) -> Result<(f64, f64, f64, f64), Fault>
-        ensures { left result self.new ≡ four self.old }
+        ensures comes_to { left result self.new ≡ four self.old }
+        ensures kept { (self.new.text ≡ self.old.text) × (self.new.sep ≡ self.old.sep) }
     {
         let (a, b) = self.two(Name::Lat1, Name::Lon1)?;
         let (c, d) = self.two(Name::Lat2, Name::Lon2)?;
@@ -296,7 +329,8 @@ impl<'a> Reader<'a> {
     // LON ALT|-, behind LAT
     #[tactic(auto, unfolding(crate::specs::Fields::site_from))]
     fn site_from(&mut self, lat: f64) -> Result<Site, Fault>
-        ensures { left result self.new ≡ site_from lat self.old }
+        ensures comes_to { left result self.new ≡ site_from lat self.old }
+        ensures kept { (self.new.text ≡ self.old.text) × (self.new.sep ≡ self.old.sep) }
     {
         let lon = self.field(Name::Lon)?;
         let alt_m = self.optional(Name::Alt)?;
@@ -306,7 +340,8 @@ impl<'a> Reader<'a> {
     // A claim's site: `-`, or LAT LON ALT|-.
     #[tactic(auto, unfolding(crate::specs::Fields::claim))]
     pub fn claim(&mut self) -> Result<Option<Site>, Fault>
-        ensures { left result self.new ≡ claim self.old }
+        ensures comes_to { left result self.new ≡ claim self.old }
+        ensures kept { (self.new.text ≡ self.old.text) × (self.new.sep ≡ self.old.sep) }
     {
         let Some(lat) = self.optional(Name::Lat)? else {
             return Ok(None);
@@ -327,8 +362,9 @@ impl<'a> Reader<'a> {
 
     // A row's site. Not one with `verdict`: what reads the parts would come as a closure with its contract (d).
     #[tactic(auto, unfolding(crate::specs::Fields::site))]
-    fn site(&mut self) -> Result<Option<Site>, Fault>
-        ensures { left result self.new ≡ site self.old }
+    pub fn site(&mut self) -> Result<Option<Site>, Fault>
+        ensures comes_to { left result self.new ≡ site self.old }
+        ensures stands { self.new ≡ past self.old }
     {
         let Some(s) = self.unless_dash(Name::Site)? else {
             return Ok(None);
@@ -358,8 +394,9 @@ impl<'a> Reader<'a> {
 
     // A row's verdict.
     #[tactic(auto, unfolding(crate::specs::Fields::verdict))]
-    fn verdict(&mut self) -> Result<Option<Verdict>, Fault>
-        ensures { left result self.new ≡ verdict self.old }
+    pub fn verdict(&mut self) -> Result<Option<Verdict>, Fault>
+        ensures comes_to { left result self.new ≡ verdict self.old }
+        ensures stands { self.new ≡ past self.old }
     {
         let Some(s) = self.unless_dash(Name::Verdict)? else {
             return Ok(None);
@@ -370,7 +407,8 @@ impl<'a> Reader<'a> {
     // SITE GEN EVEN ODD
     #[tactic(auto, unfolding(crate::specs::Fields::heard))]
     fn heard(&mut self) -> Result<Heard, Fault>
-        ensures { left result self.new ≡ heard self.old }
+        ensures comes_to { left result self.new ≡ heard self.old }
+        ensures kept { (self.new.text ≡ self.old.text) × (self.new.sep ≡ self.old.sep) }
     {
         let site = self.site()?;
         let generation = self.field(Name::Generation)?;
@@ -387,7 +425,8 @@ impl<'a> Reader<'a> {
     // SITE GEN EVEN ODD VERDICT
     #[tactic(auto, unfolding(crate::specs::Fields::part))]
     pub fn part(&mut self) -> Result<(Heard, Option<Verdict>), Fault>
-        ensures { left result self.new ≡ part self.old }
+        ensures comes_to { left result self.new ≡ part self.old }
+        ensures kept { (self.new.text ≡ self.old.text) × (self.new.sep ≡ self.old.sep) }
     {
         let heard = self.heard()?;
         let verdict = self.verdict()?;
@@ -397,7 +436,8 @@ impl<'a> Reader<'a> {
     // A row number, or the largest u32 for none, as it is lent (a).
     #[tactic(auto, unfolding(crate::specs::Fields::link))]
     pub fn link(&mut self, name: Name) -> Result<u32, Fault>
-        ensures { left result self.new ≡ link name self.old }
+        ensures comes_to { left result self.new ≡ link name self.old }
+        ensures stands { self.new ≡ past self.old }
     {
         match self.optional(name)? {
             Some(RowNumber(n)) => Ok(n),
@@ -408,7 +448,8 @@ impl<'a> Reader<'a> {
     // BEFORE AFTER
     #[tactic(auto, unfolding(crate::specs::Fields::links))]
     pub fn links(&mut self) -> Result<(u32, u32), Fault>
-        ensures { left result self.new ≡ links self.old }
+        ensures comes_to { left result self.new ≡ links self.old }
+        ensures kept { (self.new.text ≡ self.old.text) × (self.new.sep ≡ self.old.sep) }
     {
         let prev = self.link(Name::Before)?;
         let next = self.link(Name::After)?;
@@ -418,7 +459,8 @@ impl<'a> Reader<'a> {
     // NOW, which may be missing.
     #[tactic(auto, unfolding(crate::specs::Fields::clock))]
     pub fn clock(&mut self) -> Result<Option<u64>, Fault>
-        ensures { left result self.new ≡ clock self.old }
+        ensures comes_to { left result self.new ≡ clock self.old }
+        ensures stands { self.new ≡ past self.old }
     {
         match fields::next_field(self.text, self.at, self.sep) {
             Ok(None) => Ok(None),

@@ -6,6 +6,7 @@ pub mod single;
 
 ghost use Rattle.std.specs.Prelude.{◌≡◌, ◌≤◌, length};
 ghost use Rattle.lending.specs.Lendings.{Room};
+ghost use Rattle.lending.specs.Same.{SameLent};
 ghost use Rattle.session.specs.Watches.{sized_of, Opened, size_for, Watched, Written, Ran, Heard};
 
 use answers::Reply;
@@ -33,6 +34,7 @@ pub fn open(w: &mut Watch<'_>, c: u32) -> Result<Answer, Fault>
     ensures opened { Opened c w.old.rows.now w.old.cells.now w.old.ends.now w.new.rows.now w.new.cells.now w.new.ends.now result }
     ensures long { (length w.new.rows.now ≡ length w.old.rows.now) × (length w.new.cells.now ≡ length w.old.cells.now) }
     ensures size { w.new.size ≡ size_for result c w.old.size }
+    ensures same { SameLent w.old w.new }
 {
     if c > 64 {
         return Err(Fault::TooManyRows);
@@ -47,6 +49,7 @@ pub fn watch(w: &mut Watch<'_>, c: u32) -> Result<Option<Reply>, Fault>
     requires { Room w.old.rows.now w.old.cells.now }
     ensures comes { Watched c w.old.size w.old.rows.now w.old.cells.now w.old.ends.now w.new.size w.new.rows.now w.new.cells.now w.new.ends.now result }
     ensures room { Room w.new.rows.now w.new.cells.now }
+    ensures same { SameLent w.old w.new }
 {
     let _ = open(w, c)?;
     Ok(None)
@@ -57,6 +60,7 @@ fn write(w: &mut Watch<'_>, asked: Change, key: Key) -> Result<Option<Reply>, Fa
     requires { Room w.old.rows.now w.old.cells.now }
     ensures comes { Written asked key.bytes w.old.size w.old.rows.now w.old.cells.now w.old.ends.now w.new.size w.new.rows.now w.new.cells.now w.new.ends.now result }
     ensures room { Room w.new.rows.now w.new.cells.now }
+    ensures same { SameLent w.old w.new }
 {
     w.apply(asked, key)?;
     Ok(None)
@@ -68,6 +72,7 @@ fn line(w: &mut Watch<'_>, asked: Line, key: Key) -> Result<Option<Reply>, Fault
     requires { Room w.old.rows.now w.old.cells.now }
     ensures comes { Ran asked key.bytes w.old.size w.old.rows.now w.old.cells.now w.old.ends.now w.new.size w.new.rows.now w.new.cells.now w.new.ends.now result }
     ensures room { Room w.new.rows.now w.new.cells.now }
+    ensures same { SameLent w.old w.new }
 {
     match asked {
         Line::Call(c) => Ok(Some(Reply::Answered(run::call_in(w, c, key)))),
@@ -89,6 +94,7 @@ pub fn answer(w: &mut Watch<'_>, asked: Result<Option<Said>, Fault>) -> Result<O
     requires { Room w.old.rows.now w.old.cells.now }
     ensures comes { Heard asked w.old.size w.old.rows.now w.old.cells.now w.old.ends.now w.new.size w.new.rows.now w.new.cells.now w.new.ends.now result }
     ensures room { Room w.new.rows.now w.new.cells.now }
+    ensures same { SameLent w.old w.new }
 {
     let Some(said) = asked? else {
         return Ok(None);

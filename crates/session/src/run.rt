@@ -2,6 +2,7 @@
 ghost use Rattle.std.specs.Prelude.{◌≡◌, length};
 ghost use Rattle.rows.specs.Read.{watch_is};
 ghost use Rattle.flat.specs.Table.{rows_of};
+ghost use Rattle.lending.specs.Same.{SameLent};
 ghost use Rattle.moves.specs.Answers.{outcome};
 ghost use Rattle.session.specs.Watches.{call_by, Called};
 
@@ -33,6 +34,7 @@ pub fn call_in(w: &mut Watch<'_>, asked: Call, key: Key) -> Answer
     ensures called { Called w.old.size asked key.bytes w.old.rows.now w.old.cells.now w.old.ends.now w.new.rows.now w.new.cells.now w.new.ends.now result }
     ensures long { (length w.new.rows.now ≡ length w.old.rows.now) × (length w.new.cells.now ≡ length w.old.cells.now) }
     ensures size { w.new.size ≡ w.old.size }
+    ensures same { SameLent w.old w.new }
 {
     let a = 25 * (w.size.rows as usize);
     let m = w.size.cells as usize;

@@ -137,7 +137,7 @@ fn step<R: Read, W: Write>(done: &mut Done, list: &mut Lines<'_, R>, to: &mut Si
     ensures turn { Stepped (view_of R.remaining W.contents list.old.input list.old.buf.now list.old.source to.old done.old) (view_of R.remaining W.contents list.new.input list.new.buf.now list.new.source to.new done.new) }
     ensures source { source_failed list.old.source ≡ true → list.new.source ≡ list.old.source }
     ensures sink { sink_failed to.old ≡ true → to.new ≡ to.old }
-    ensures buffer { length list.new.buf.now ≡ length list.old.buf.now }
+    ensures buffer { (list.new.buf.ghost_name ≡ list.old.buf.ghost_name) × (length list.new.buf.now ≡ length list.old.buf.now) }
 {
     let line = list.next_line();
     let t = list.bytes(line);
@@ -151,7 +151,7 @@ pub fn run<R: Read, W: Write>(list: &mut Lines<'_, R>, to: &mut Sink<W>)
     ensures turns { Replayed (view_of R.remaining W.contents list.old.input list.old.buf.now list.old.source to.old nothing_done) (view_of R.remaining W.contents list.new.input list.new.buf.now list.new.source to.new) }
     ensures source { source_failed list.old.source ≡ true → list.new.source ≡ list.old.source }
     ensures sink { sink_failed to.old ≡ true → to.new ≡ to.old }
-    ensures buffer { length list.new.buf.now ≡ length list.old.buf.now }
+    ensures buffer { (list.new.buf.ghost_name ≡ list.old.buf.ghost_name) × (length list.new.buf.now ≡ length list.old.buf.now) }
 {
     let mut done = Done::new();
     for turn in 0..u64::MAX {

@@ -8,4 +8,4 @@ abbrev pub invariant-loop-i : goal.invariant-loop-i
 invariant-loop-i g l =
     let before = g.W.Lent.rows_in l.fn.rows in
     let rows = g.W.Lent.rows_in l.rows in
-    (length rows ≡ length before) × (filled (fresh_of (length before)) (length before - l.i) l.i rows ≡ filled (fresh_of (length before)) (length before) 0 before)
+    (length rows ≡ length before) × (filled (fresh_of l.n) (length before - l.i) l.i rows ≡ filled (fresh_of l.n) (length before) 0 before)

@@ -10,7 +10,9 @@ use Rattle.judge.proofs.judge_row.Goals as goal
 
 pub returns-then-grid_heard : goal.returns-then-grid_heard
 unfolding judge_row
-returns-then-grid_heard c = c.judge_cells.ensures ∙ ap₂ (judge_cells c.args.site) c.grid_view-grid.ensures c.far_view-far.ensures
+returns-then-grid_heard c =
+    let s = c.args in
+    c.judge_grid.ensures ∙ ap (judge_cells s.site (grid_of s.halves.cells.now s.halves.even s.halves.odd)) c.far_view-far.ensures
 
 pub returns-then-even : goal.returns-then-even
 unfolding judge_row

@@ -1,4 +1,4 @@
--- The claim seats the key's row, or is refused by its site, as the definition's is (`claimed_in`, `claim_out`).
+-- The claim seats the key's row, or is refused by its site, as the definition's is (`claim_so`).
 use Rattle.std.proofs.Common.{◌≡◌, Bool, true, false, cond, ◌||◌, ◌*◌, refl, sym, ap, subst, ◌∙◌, Ok, rules}
 use lib.Seq.{sets}
 use Rattle.receiver.specs.Calls.{claim}
@@ -12,7 +12,8 @@ use Rattle.moves.specs.Answers.{outcome}
 use Rattle.moves.specs.declared.Word.TheVariants as Wd
 use Rattle.moves.proofs.Looked.{claim_site, seat_room}
 use Rattle.rows.proofs.Passed.{no_ok}
-use Rattle.moves.proofs.Steps.{claimed_in, claim_out}
+use Rattle.moves.specs.Moves.{by_site, seated}
+use Rattle.moves.proofs.Entries.{claim_so}
 use Rattle.lent.proofs.Laws.{handed_on}
 use Rattle.lent.proofs.Exit.{Told, told_call}
 use Rattle.lent.proofs.claim.Goals as goal
@@ -34,8 +35,8 @@ returns-in_err-c g c =
     let r = c.from_residual-in_err-c in
     told_call g.met.W.Lent.leaves _ _ _ a.ends.now r.result (λ x q. refl) _ _ (claim a.site)
     (ap (λ x. outcome x (g.W.Lent.rows_in a.rows.now) a.cells.now a.ends.now) (handed_on r.result c.in_err-c.field-0.0 r.ensures.1)
-    ∙ claim_out (g.W.Lent.rows_in a.rows.now) a.cells.now a.ends.now e.result a.key l.result e.ensures l.ensures a.site c.in_ok-at.at (sym c.claimable.ensures ∙ c.in_ok-at.was) c.in_err-c.field-0.0
-    (λ m. ap (λ x. claiming_is x m) (sym c.in_err-c.was) ∙ c.set_site.ensures m ∙ ap (λ (x : Part). claimed x.heard m a.site) c.part_at-part.ensures))
+    ∙ claim_so (g.W.Lent.rows_in a.rows.now) a.cells.now a.ends.now e.result a.key l.result e.ensures l.ensures a.site _ _ a.ends.now _ (by_site c.in_ok-at.at c.in_err-c.field-0.0 (sym c.claimable.ensures ∙ c.in_ok-at.was)
+    (λ m. ap (λ x. claiming_is x m) (sym c.in_err-c.was) ∙ c.set_site.ensures m ∙ ap (λ (x : Part). claimed x.heard m a.site) c.part_at-part.ensures) refl (refl, refl, sym e.ensures)))
 
 pub empty-requires : goal.empty-requires
 empty-requires g c =
@@ -73,6 +74,6 @@ returns g c =
     let part = c.claim_part.ensures ∙ ap (λ (x : Part). claim_part x c.in_ok-c.c) c.part_at-part.ensures in
     subst (Told g.W.Lent.rows_in g.W.Lent.left a.rows.now c.if-seat.cells c.into.result (Ok (Wd.Generation c.in_ok-c.c.heard.generation s.result.pushed)) _) (search rules)
     (told_call g.met.W.Lent.leaves _ _ _ c.into.result (Ok (Wd.Generation c.in_ok-c.c.heard.generation s.result.pushed)) (λ x q. no_ok q) _ _ (claim a.site)
-    (claimed_in xs a.cells.now a.ends.now e.result a.key l.result e.ensures l.ensures a.site c.in_ok-at.at (sym c.claimable.ensures ∙ c.in_ok-at.was) c.in_ok-c.c
-    (λ m. ap (λ x. claiming_is x m) (sym c.in_ok-c.was) ∙ c.set_site.ensures m ∙ ap (λ (x : Part). claimed x.heard m a.site) c.part_at-part.ensures) _ _ c.into.result s.result
-    (s.ensures.seat ∙ ap (seat_of xs e.result c.in_ok-at.at) part) (s.ensures.rows.1 ∙ ap (seated_rows xs e.result c.in_ok-at.at a.key) part) cleared (c.into.ensures ∙ ap ends_of s.ensures.ends)))
+    (claim_so xs a.cells.now a.ends.now e.result a.key l.result e.ensures l.ensures a.site _ _ c.into.result (Ok (Wd.Generation c.in_ok-c.c.heard.generation s.result.pushed)) (seated c.in_ok-at.at c.in_ok-c.c s.result (sym c.claimable.ensures ∙ c.in_ok-at.was)
+    (λ m. ap (λ x. claiming_is x m) (sym c.in_ok-c.was) ∙ c.set_site.ensures m ∙ ap (λ (x : Part). claimed x.heard m a.site) c.part_at-part.ensures)
+    (s.ensures.seat ∙ ap (seat_of xs e.result c.in_ok-at.at) part) refl (s.ensures.rows.1 ∙ ap (seated_rows xs e.result c.in_ok-at.at a.key) part) cleared (c.into.ensures ∙ ap ends_of s.ensures.ends))))
