@@ -204,50 +204,68 @@ fn ends_line(r: &mut Reader<'_>) -> Result<Said, Fault>
     unkeyed(r, Name::Free, Line::Change(change))
 }
 
-// The call that a word names. A `match` on the word's bytes leaves open goals, one for each of its hundred ways out (c).
+// The call that a word names. A `match` on the word's bytes leaves open goals, one for each of its hundred ways out (c). Each word returns: a chain of
+// `else if` copies what the line asks for once for each word before its own (b).
 #[tactic(auto, using(fields::proofs::Lines::same_is), unfolding(crate::specs::Lines::line_by))]
 pub fn line_by(r: &mut Reader<'_>, word: &[u8]) -> Result<Said, Fault>
     ensures { left result r.new ≡ line_by word.now (length word.now) r.old }
 {
     if word == b"watch".as_slice() {
-        watch_line(r)
-    } else if word == b"fresh".as_slice() {
-        bare_line(r, Line::Call(Call::Fresh))
-    } else if word == b"drop".as_slice() {
-        bare_line(r, Line::Call(Call::Drop))
-    } else if word == b"check".as_slice() {
-        key_line(r, Line::Call(Call::Check))
-    } else if word == b"takeout".as_slice() {
-        key_line(r, Line::Call(Call::TakeOut))
-    } else if word == b"claim".as_slice() {
-        claim_line(r)
-    } else if word == b"position".as_slice() {
-        position_line(r)
-    } else if word == b"judging".as_slice() {
-        judging_line(r)
-    } else if word == b"turn".as_slice() {
-        turn_line(r)
-    } else if word == b"digest".as_slice() {
-        bare_line(r, Line::Digest)
-    } else if word == b"place".as_slice() {
-        place_line(r)
-    } else if word == b"same".as_slice() {
-        same_line(r)
-    } else if word == b"horizon".as_slice() {
-        horizon_line(r)
-    } else if word == b"bucket".as_slice() {
-        bucket_line(r)
-    } else if word == b"bit".as_slice() {
-        bit_line(r)
-    } else if word == b"lend".as_slice() {
-        lend_line(r)
-    } else if word == b"row".as_slice() {
-        row_line(r)
-    } else if word == b"cell".as_slice() {
-        cell_line(r)
-    } else if word == b"ends".as_slice() {
-        ends_line(r)
-    } else {
-        Err(Fault::Unknown { end: word.len() })
+        return watch_line(r);
     }
+    if word == b"fresh".as_slice() {
+        return bare_line(r, Line::Call(Call::Fresh));
+    }
+    if word == b"drop".as_slice() {
+        return bare_line(r, Line::Call(Call::Drop));
+    }
+    if word == b"check".as_slice() {
+        return key_line(r, Line::Call(Call::Check));
+    }
+    if word == b"takeout".as_slice() {
+        return key_line(r, Line::Call(Call::TakeOut));
+    }
+    if word == b"claim".as_slice() {
+        return claim_line(r);
+    }
+    if word == b"position".as_slice() {
+        return position_line(r);
+    }
+    if word == b"judging".as_slice() {
+        return judging_line(r);
+    }
+    if word == b"turn".as_slice() {
+        return turn_line(r);
+    }
+    if word == b"digest".as_slice() {
+        return bare_line(r, Line::Digest);
+    }
+    if word == b"place".as_slice() {
+        return place_line(r);
+    }
+    if word == b"same".as_slice() {
+        return same_line(r);
+    }
+    if word == b"horizon".as_slice() {
+        return horizon_line(r);
+    }
+    if word == b"bucket".as_slice() {
+        return bucket_line(r);
+    }
+    if word == b"bit".as_slice() {
+        return bit_line(r);
+    }
+    if word == b"lend".as_slice() {
+        return lend_line(r);
+    }
+    if word == b"row".as_slice() {
+        return row_line(r);
+    }
+    if word == b"cell".as_slice() {
+        return cell_line(r);
+    }
+    if word == b"ends".as_slice() {
+        return ends_line(r);
+    }
+    Err(Fault::Unknown { end: word.len() })
 }
